@@ -1,0 +1,6 @@
+mod Rows
+mod Used
+mod EndToEnd
+mod Parts
+mod PackedRow
+mod SlotBytes

@@ -1,0 +1,4 @@
+pub mod Rows
+pub mod Limit
+pub mod Packed
+pub mod SlotBytes
