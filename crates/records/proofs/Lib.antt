@@ -1,0 +1,2 @@
+mod FourWords
+mod ShutOut
