@@ -1,0 +1,2 @@
+mod Given
+mod Turns
