@@ -232,6 +232,7 @@ fn past_the_limit(rt: LibcRuntime) -> Result<(), Fail> {
     // an annex has no more slots either
     let mut both = Annex::new(tray, OpenTray::new(&mut one));
     check_eq(both.capacity(), 1_000_000)?;
+    takes(&mut both, 999_999, 2)?;
     refuses(&mut both, 1_000_000)?;
     let [only] = one;
     is_slot(only, 6)?;
