@@ -1,2 +1,11 @@
 mod Given
 mod Turns
+mod Stores
+mod Counts
+mod Deeds
+mod Tied
+mod Sinces
+mod Leaves
+mod Readers
+mod Parties
+mod Stands

@@ -6,7 +6,9 @@ use lib.ListN.{length, drop, drop-of-length-le}
 use Rattle.std.specs.Of.Vec.{vec-items}
 use Rattle.book.specs.State.{new-list}
 use Rattle.runs.specs.Answers.{answer-of}
+use Rattle.runs.specs.Kinds.{Kind}
 use Rattle.runs.specs.Steps.{world, step, step-answer, answers, after}
+use Rattle.runs.proofs.Stands.{throughout}
 use Rattle.runs.proofs.Turns.{next-call, map-append, made-ok, answers-more, after-more}
 use Rattle.runs.proofs.running.run.Needs as need
 
@@ -47,8 +49,11 @@ returns g c =
     let inv = c .loop-call .inv in
     let none : drop (c .loop-call .call-index) (c .args .calls .now) ≡ [] = drop-of-length-le (c .args .calls .now) (c .loop-call-test .left) in
     let given = map answer-of (vec-items (c .loop-call .replies)) in
+    let told = sym (ap (λ v. answers reads writes v (c .args .calls .now)) (sym begins) ∙ inv .0 ∙ ap (λ cs. given ++ answers reads writes w cs) none ∙ append-nil given) in
+    let kind : Kind (g .R .Denot) (g .R·Record .Value) = record { means = g .R·Record .means; writes = writes; reads = reads } in
     record {
-      answers = sym (ap (λ v. answers reads writes v (c .args .calls .now)) (sym begins) ∙ inv .0 ∙ ap (λ cs. given ++ answers reads writes w cs) none ∙ append-nil given);
+      answers = told;
+      law = throughout kind (g .T·Tray .row (c .args .tray)) (g .R·Record·met .back) (c .args .number) (c .args .calls .now) given told;
       left = sym (ap (λ v. after writes v (c .args .calls .now)) (sym begins) ∙ inv .1 ∙ ap (after writes w) none);
       key = inv .2;
     }
