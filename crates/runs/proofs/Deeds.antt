@@ -72,11 +72,11 @@ module _ {R : Type 0} where
       quiet : {c : Call R} {a : Answer R} → Quiet c a → Did s ls c a s ls
 
 -- no check of the list refuses
-abbrev Clear : Checks → Type 0
+abbrev pub Clear : Checks → Type 0
 Clear [] = Unit {0}
 Clear (c ∷ cs) = (c .0 ≡ false) × Clear cs
 
-clear : (cs : Checks) → verdict cs ≡ None → Clear cs
+pub clear : (cs : Checks) → verdict cs ≡ None → Clear cs
 clear [] e = tt
 clear (c ∷ cs) e = go (c .0) refl e (clear cs)
   where

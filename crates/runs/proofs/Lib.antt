@@ -9,3 +9,4 @@ mod Leaves
 mod Readers
 mod Parties
 mod Stands
+mod Orders

@@ -4,3 +4,4 @@ pub mod Histories
 pub mod Kinds
 pub mod Law
 pub mod Throughout
+pub mod Sound

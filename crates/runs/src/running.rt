@@ -9,6 +9,7 @@ ghost use Rattle.book.specs.State.{new-list};
 ghost use Rattle.book.specs.Told.{told};
 ghost use Rattle.runs.specs.Answers.{answer-of, as-done, as-entered, as-key};
 ghost use Rattle.runs.specs.Steps.{Held-key, world, keyed-answer, keyed-after, step-answer, step-state, step-row, answers, after};
+ghost use Rattle.runs.specs.Sound.{Sound};
 ghost use Rattle.runs.specs.Throughout.{Throughout};
 use crate::Call;
 use crate::Reply;
@@ -159,6 +160,7 @@ pub fn run<R: Record, T: Tray<Slot = Slot> + Drop>(
     ensures answers { λ r. ⌜ made r (λ o. map answer-of (vec-items (o .replies)) ≡ answers reads writes (world number new-list (row tray)) (now (calls .entry))) ⌝ }
     ensures left { λ r. ⌜ made r (λ o. world (o .book .number) (o .book .state) (row (o .book .tray)) ≡ after writes (world number new-list (row tray)) (now (calls .entry))) ⌝ }
     ensures law { λ r. ⌜ made r (λ o. Throughout (record { means = means; writes = writes; reads = reads }) number (row tray) (now (calls .entry)) (map answer-of (vec-items (o .replies)))) ⌝ }
+    ensures sound { λ r. ⌜ made r (λ o. Sound reads (world (o .book .number) (o .book .state) (row (o .book .tray)))) ⌝ }
     ensures key { λ r. ⌜ made r (λ o. Held-key (o .key) (o .book .number) (o .book .state .key)) ⌝ }
 {
     let mut replies = Vec::with_capacity(heap, calls.len())?;

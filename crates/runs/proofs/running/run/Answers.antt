@@ -1,5 +1,5 @@
 use native.Mathlib.Omega.{arith}
-use mathlib.Core.Path.{_≡_, refl, sym, ap, _∙_}
+use mathlib.Core.Path.{_≡_, refl, sym, ap, subst, _∙_}
 use mathlib.Core.List.{List, [], _∷_, _++_, map, append-nil}
 use Prim.Native.Nat.{_+_, _<_, _≤_}
 use lib.ListN.{length, drop, drop-of-length-le}
@@ -7,7 +7,9 @@ use Rattle.std.specs.Of.Vec.{vec-items}
 use Rattle.book.specs.State.{new-list}
 use Rattle.runs.specs.Answers.{answer-of}
 use Rattle.runs.specs.Kinds.{Kind}
-use Rattle.runs.specs.Steps.{world, step, step-answer, answers, after}
+use Rattle.runs.specs.Sound.{Sound}
+use Rattle.runs.specs.Steps.{World, world, step, step-answer, answers, after}
+use Rattle.runs.proofs.Orders.{sound}
 use Rattle.runs.proofs.Stands.{throughout}
 use Rattle.runs.proofs.Turns.{next-call, map-append, made-ok, answers-more, after-more}
 use Rattle.runs.proofs.running.run.Needs as need
@@ -51,9 +53,12 @@ returns g c =
     let given = map answer-of (vec-items (c .loop-call .replies)) in
     let told = sym (ap (λ v. answers reads writes v (c .args .calls .now)) (sym begins) ∙ inv .0 ∙ ap (λ cs. given ++ answers reads writes w cs) none ∙ append-nil given) in
     let kind : Kind (g .R .Denot) (g .R·Record .Value) = record { means = g .R·Record .means; writes = writes; reads = reads } in
+    let stands : w ≡ after writes (world (c .args .number) new-list (g .T·Tray .row (c .args .tray))) (c .args .calls .now) =
+    sym (ap (λ v. after writes v (c .args .calls .now)) (sym begins) ∙ inv .1 ∙ ap (after writes w) none) in
     record {
       answers = told;
       law = throughout kind (g .T·Tray .row (c .args .tray)) (g .R·Record·met .back) (c .args .number) (c .args .calls .now) given told;
-      left = sym (ap (λ v. after writes v (c .args .calls .now)) (sym begins) ∙ inv .1 ∙ ap (after writes w) none);
+      left = stands;
+      sound = subst (λ (v : World). Sound reads v) (sym stands) (sound kind (g .T·Tray .row (c .args .tray)) (g .R·Record·met .back) (c .args .number) (c .args .calls .now));
       key = inv .2;
     }
