@@ -202,7 +202,7 @@ fn print_since<T: Tray<Slot = Slot>>(
     let (time, position) = mark;
     println!(
         rt,
-        "Reading on from mark ({time}, {position}), {limit} frames at most."
+        "Reading on from mark ({time}, {position}), limit {limit}."
     )?;
     let mut row = [Frame {
         time: 0,
