@@ -22,8 +22,8 @@ fn show<R: Record, T: Tray<Slot = Slot>>(
     key: &ServiceKey,
     call: Keyed,
 ) -> Result<(), BookFault>
-    ensures answer { λ r. ⌜ told r ≡ decided (keyed-checks call (now (book .entry) .state) (now (book .entry) .number) (now (key .entry) .book)) tt ⌝ }
-    ensures state { λ _. ⌜ now (book .exit) .state ≡ left (keyed-checks call (now (book .entry) .state) (now (book .entry) .number) (now (key .entry) .book)) (keyed-state call (now (book .entry) .state)) (now (book .entry) .state) ⌝ }
+    ensures answer { λ r. let b = now (book .entry) in ⌜ told r ≡ decided (keyed-checks call (b .state) (b .number) (now (key .entry) .book)) tt ⌝ }
+    ensures state { λ _. let b = now (book .entry) in ⌜ now (book .exit) .state ≡ left (keyed-checks call (b .state) (b .number) (now (key .entry) .book)) (keyed-state call (b .state)) (b .state) ⌝ }
     ensures tray { λ _. ⌜ now (book .exit) .tray ≡ now (book .entry) .tray ⌝ }
     ensures number { λ _. ⌜ now (book .exit) .number ≡ now (book .entry) .number ⌝ }
 {
@@ -41,8 +41,8 @@ fn show_other<R: Record, T: Tray<Slot = Slot>>(
     number: u16,
     call: Keyed,
 ) -> Result<(), BookFault>
-    ensures answer { λ r. ⌜ told r ≡ decided (keyed-checks call (now (book .entry) .state) (now (book .entry) .number) number) tt ⌝ }
-    ensures state { λ _. ⌜ now (book .exit) .state ≡ left (keyed-checks call (now (book .entry) .state) (now (book .entry) .number) number) (keyed-state call (now (book .entry) .state)) (now (book .entry) .state) ⌝ }
+    ensures answer { λ r. let b = now (book .entry) in ⌜ told r ≡ decided (keyed-checks call (b .state) (b .number) number) tt ⌝ }
+    ensures state { λ _. let b = now (book .entry) in ⌜ now (book .exit) .state ≡ left (keyed-checks call (b .state) (b .number) number) (keyed-state call (b .state)) (b .state) ⌝ }
     ensures tray { λ _. ⌜ now (book .exit) .tray ≡ now (book .entry) .tray ⌝ }
     ensures number { λ _. ⌜ now (book .exit) .number ≡ now (book .entry) .number ⌝ }
 {
@@ -67,9 +67,9 @@ pub(crate) fn shown<R: Record, T: Tray<Slot = Slot>>(
     number: u16,
     call: Keyed,
 ) -> (Result<(), BookFault>, Option<ServiceKey>)
-    ensures answer { λ r. ⌜ told (r .0) ≡ decided (keyed-checks call (now (book .entry) .state) (now (book .entry) .number) number) tt ⌝ }
+    ensures answer { λ r. let b = now (book .entry) in ⌜ told (r .0) ≡ decided (keyed-checks call (b .state) (b .number) number) tt ⌝ }
     ensures held { λ r. ⌜ r .1 ≡ held ⌝ }
-    ensures state { λ _. ⌜ now (book .exit) .state ≡ left (keyed-checks call (now (book .entry) .state) (now (book .entry) .number) number) (keyed-state call (now (book .entry) .state)) (now (book .entry) .state) ⌝ }
+    ensures state { λ _. let b = now (book .entry) in ⌜ now (book .exit) .state ≡ left (keyed-checks call (b .state) (b .number) number) (keyed-state call (b .state)) (b .state) ⌝ }
     ensures tray { λ _. ⌜ now (book .exit) .tray ≡ now (book .entry) .tray ⌝ }
     ensures number { λ _. ⌜ now (book .exit) .number ≡ now (book .entry) .number ⌝ }
 {
@@ -90,8 +90,8 @@ fn hand_other<R: Record, T: Tray<Slot = Slot>>(
     book: &mut Book<R, T>,
     number: u16,
 ) -> Result<(), BookFault>
-    ensures answer { λ r. ⌜ told r ≡ decided (key-checks (now (book .entry) .state) (now (book .entry) .number) number) tt ⌝ }
-    ensures state { λ _. ⌜ now (book .exit) .state ≡ left (key-checks (now (book .entry) .state) (now (book .entry) .number) number) (with-key KeyPlace.In (now (book .entry) .state)) (now (book .entry) .state) ⌝ }
+    ensures answer { λ r. let b = now (book .entry) in ⌜ told r ≡ decided (key-checks (b .state) (b .number) number) tt ⌝ }
+    ensures state { λ _. let b = now (book .entry) in ⌜ now (book .exit) .state ≡ left (key-checks (b .state) (b .number) number) (with-key KeyPlace.In (b .state)) (b .state) ⌝ }
     ensures tray { λ _. ⌜ now (book .exit) .tray ≡ now (book .entry) .tray ⌝ }
     ensures number { λ _. ⌜ now (book .exit) .number ≡ now (book .entry) .number ⌝ }
 {
@@ -116,9 +116,9 @@ pub(crate) fn handed<R: Record, T: Tray<Slot = Slot>>(
     number: u16,
 ) -> (Result<(), BookFault>, Option<ServiceKey>)
     requires { ⌜ Held-key held (now book .number) (now book .state .key) ⌝ }
-    ensures answer { λ r. ⌜ told (r .0) ≡ decided (key-checks (now (book .entry) .state) (now (book .entry) .number) number) tt ⌝ }
+    ensures answer { λ r. let b = now (book .entry) in ⌜ told (r .0) ≡ decided (key-checks (b .state) (b .number) number) tt ⌝ }
     ensures held { λ r. ⌜ Held-key (r .1) (now (book .exit) .number) (now (book .exit) .state .key) ⌝ }
-    ensures state { λ _. ⌜ now (book .exit) .state ≡ left (key-checks (now (book .entry) .state) (now (book .entry) .number) number) (with-key KeyPlace.In (now (book .entry) .state)) (now (book .entry) .state) ⌝ }
+    ensures state { λ _. let b = now (book .entry) in ⌜ now (book .exit) .state ≡ left (key-checks (b .state) (b .number) number) (with-key KeyPlace.In (b .state)) (b .state) ⌝ }
     ensures tray { λ _. ⌜ now (book .exit) .tray ≡ now (book .entry) .tray ⌝ }
     ensures number { λ _. ⌜ now (book .exit) .number ≡ now (book .entry) .number ⌝ }
 {
@@ -143,9 +143,9 @@ pub(crate) fn taken<R: Record, T: Tray<Slot = Slot>>(
     held: Option<ServiceKey>,
 ) -> (Result<u16, BookFault>, Option<ServiceKey>)
     requires { ⌜ Held-key held (now book .number) (now book .state .key) ⌝ }
-    ensures answer { λ r. ⌜ told (r .0) ≡ decided (take-checks (now (book .entry) .state)) (now (book .entry) .number) ⌝ }
+    ensures answer { λ r. let b = now (book .entry) in ⌜ told (r .0) ≡ decided (take-checks (b .state)) (b .number) ⌝ }
     ensures held { λ r. ⌜ Held-key (r .1) (now (book .exit) .number) (now (book .exit) .state .key) ⌝ }
-    ensures state { λ _. ⌜ now (book .exit) .state ≡ left (take-checks (now (book .entry) .state)) (with-key KeyPlace.Out (now (book .entry) .state)) (now (book .entry) .state) ⌝ }
+    ensures state { λ _. let b = now (book .entry) in ⌜ now (book .exit) .state ≡ left (take-checks (b .state)) (with-key KeyPlace.Out (b .state)) (b .state) ⌝ }
     ensures tray { λ _. ⌜ now (book .exit) .tray ≡ now (book .entry) .tray ⌝ }
     ensures number { λ _. ⌜ now (book .exit) .number ≡ now (book .entry) .number ⌝ }
 {

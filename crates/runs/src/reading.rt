@@ -49,8 +49,8 @@ fn ask<R: Record, T: Tray<Slot = Slot>>(
     read: Read,
     into: &mut [Frame<R>],
 ) -> Result<Reading, BookFault>
-    ensures answer { λ r. ⌜ told r ≡ decided (read-checks read (now (book .entry) .state) (row (now (book .entry) .tray)) (length (now (into .entry)))) (read-answer reads read (now (book .entry) .state) (row (now (book .entry) .tray)) (length (now (into .entry)))) ⌝ }
-    ensures row { λ _. ⌜ now (into .exit) ≡ left (read-checks read (now (book .entry) .state) (row (now (book .entry) .tray)) (length (now (into .entry)))) (laid (read-gives reads read (now (book .entry) .state) (row (now (book .entry) .tray)) (length (now (into .entry)))) (now (into .entry))) (now (into .entry)) ⌝ }
+    ensures answer { λ r. let b = now (book .entry) in let old = now (into .entry) in let slots = row (b .tray) in let room = length old in ⌜ told r ≡ decided (read-checks read (b .state) slots room) (read-answer reads read (b .state) slots room) ⌝ }
+    ensures row { λ _. let b = now (book .entry) in let old = now (into .entry) in let slots = row (b .tray) in let room = length old in ⌜ now (into .exit) ≡ left (read-checks read (b .state) slots room) (laid (read-gives reads read (b .state) slots room) old) old ⌝ }
 {
     match read {
         Read::Since { mark, limit } => book.since(mark, limit, into),
@@ -68,7 +68,7 @@ pub(crate) fn read_own<R: Record, T: Tray<Slot = Slot>>(
     read: Read,
     room: u16,
 ) -> Result<Reply<R>, AllocError>
-    ensures { λ r. ⌜ made r (λ reply. answer-of reply ≡ as-given (decided (read-checks read (now (book .entry) .state) (row (now (book .entry) .tray)) room) (read-answer reads read (now (book .entry) .state) (row (now (book .entry) .tray)) room)) (read-gives reads read (now (book .entry) .state) (row (now (book .entry) .tray)) room)) ⌝ }
+    ensures { λ r. let b = now (book .entry) in let slots = row (b .tray) in ⌜ made r (λ reply. answer-of reply ≡ as-given (decided (read-checks read (b .state) slots room) (read-answer reads read (b .state) slots room)) (read-gives reads read (b .state) slots room)) ⌝ }
 {
     let mut row = row_of(heap, blank, room)?;
     let answer = ask(book, read, &mut row);

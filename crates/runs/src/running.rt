@@ -70,9 +70,9 @@ fn shown<R: Record, T: Tray<Slot = Slot>>(
     call: Keyed,
 ) -> (Result<Reply<R>, AllocError>, Option<ServiceKey>)
     requires { ⌜ Held-key held (now book .number) (now book .state .key) ⌝ }
-    ensures answer { λ r. ⌜ made (r .0) (λ reply. answer-of reply ≡ keyed-answer call number (world (now (book .entry) .number) (now (book .entry) .state) (row (now (book .entry) .tray)))) ⌝ }
+    ensures answer { λ r. let b = now (book .entry) in ⌜ made (r .0) (λ reply. answer-of reply ≡ keyed-answer call number (world (b .number) (b .state) (row (b .tray)))) ⌝ }
     ensures held { λ r. ⌜ Held-key (r .1) (now (book .exit) .number) (now (book .exit) .state .key) ⌝ }
-    ensures state { λ _. ⌜ now (book .exit) .state ≡ keyed-after call number (world (now (book .entry) .number) (now (book .entry) .state) (row (now (book .entry) .tray))) ⌝ }
+    ensures state { λ _. let b = now (book .entry) in ⌜ now (book .exit) .state ≡ keyed-after call number (world (b .number) (b .state) (row (b .tray))) ⌝ }
     ensures tray { λ _. ⌜ now (book .exit) .tray ≡ now (book .entry) .tray ⌝ }
     ensures number { λ _. ⌜ now (book .exit) .number ≡ now (book .entry) .number ⌝ }
 {
@@ -89,10 +89,10 @@ fn carry_out<R: Record, T: Tray<Slot = Slot>>(
     call: Call<R>,
 ) -> (Result<Reply<R>, AllocError>, Option<ServiceKey>)
     requires { ⌜ Held-key held (now book .number) (now book .state .key) ⌝ }
-    ensures answer { λ r. ⌜ made (r .0) (λ reply. answer-of reply ≡ step-answer reads call (world (now (book .entry) .number) (now (book .entry) .state) (row (now (book .entry) .tray)))) ⌝ }
+    ensures answer { λ r. let b = now (book .entry) in ⌜ made (r .0) (λ reply. answer-of reply ≡ step-answer reads call (world (b .number) (b .state) (row (b .tray)))) ⌝ }
     ensures held { λ r. ⌜ Held-key (r .1) (now (book .exit) .number) (now (book .exit) .state .key) ⌝ }
-    ensures state { λ _. ⌜ now (book .exit) .state ≡ step-state call (world (now (book .entry) .number) (now (book .entry) .state) (row (now (book .entry) .tray))) ⌝ }
-    ensures slots { λ _. ⌜ row (now (book .exit) .tray) ≡ step-row writes call (world (now (book .entry) .number) (now (book .entry) .state) (row (now (book .entry) .tray))) ⌝ }
+    ensures state { λ _. let b = now (book .entry) in ⌜ now (book .exit) .state ≡ step-state call (world (b .number) (b .state) (row (b .tray))) ⌝ }
+    ensures slots { λ _. let b = now (book .entry) in ⌜ row (now (book .exit) .tray) ≡ step-row writes call (world (b .number) (b .state) (row (b .tray))) ⌝ }
     ensures number { λ _. ⌜ now (book .exit) .number ≡ now (book .entry) .number ⌝ }
 {
     match call {
