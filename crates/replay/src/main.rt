@@ -1,5 +1,7 @@
 // Replays a session of calls on a new count book: reads it from standard input, a line for each call,
 // and prints an answer for each.
+ghost use mathlib.Core.Path.{_≡_};
+ghost use Rattle.std.specs.Options.{isSome};
 ghost use Rattle.runs.specs.Steps.{Held-key};
 use book::Book;
 use book::ServiceKey;
@@ -78,6 +80,7 @@ fn close<R: Record, T: Tray<Slot = Slot> + Drop>(
     key: Option<ServiceKey>,
 ) -> bool
     requires { ⌜ Held-key key (book .number) (book .state .key) ⌝ }
+    ensures { λ r. ⌜ r ≡ isSome key ⌝ }
 {
     match key {
         Some(key) => match book.hand_back(key) {

@@ -1,4 +1,7 @@
 // A line read into a call.
+ghost use Prim.Native.Nat.{_≤_};
+ghost use Rattle.std.specs.Vec.{made};
+ghost use Rattle.wording.specs.Rooms.{Room-fits};
 use crate::Expected;
 use crate::Worded;
 use crate::Words;
@@ -18,7 +21,9 @@ fn limit(words: &mut Words<'_>) -> Result<u16, Expected> {
 }
 
 // Of so many frames is the row that a read brings; no read fills more than 144.
-fn room(words: &mut Words<'_>) -> Result<u16, Expected> {
+fn room(words: &mut Words<'_>) -> Result<u16, Expected>
+    ensures { λ r. ⌜ made r (λ room. room ≤ 144) ⌝ }
+{
     words.word("room")?;
     Ok(words.number(0, 144)? as u16)
 }
@@ -36,25 +41,33 @@ fn mode(words: &mut Words<'_>) -> Result<Mode, Expected> {
     }
 }
 
-fn set_mode<R: Worded>(words: &mut Words<'_>) -> Result<Call<R>, Expected> {
+fn set_mode<R: Worded>(words: &mut Words<'_>) -> Result<Call<R>, Expected>
+    ensures { λ r. ⌜ made r Room-fits ⌝ }
+{
     let mode = mode(words)?;
     let key = key(words)?;
     Ok(Call::SetMode { key, mode })
 }
 
-fn enter<R: Worded>(words: &mut Words<'_>) -> Result<Call<R>, Expected> {
+fn enter<R: Worded>(words: &mut Words<'_>) -> Result<Call<R>, Expected>
+    ensures { λ r. ⌜ made r Room-fits ⌝ }
+{
     let time = words.long()?;
     let record = R::from_words(words)?;
     Ok(Call::Enter { time, record })
 }
 
-fn release<R: Worded>(words: &mut Words<'_>) -> Result<Call<R>, Expected> {
+fn release<R: Worded>(words: &mut Words<'_>) -> Result<Call<R>, Expected>
+    ensures { λ r. ⌜ made r Room-fits ⌝ }
+{
     let position = words.long()?;
     let key = key(words)?;
     Ok(Call::Release { key, position })
 }
 
-fn listen<R: Worded>(words: &mut Words<'_>) -> Result<Call<R>, Expected> {
+fn listen<R: Worded>(words: &mut Words<'_>) -> Result<Call<R>, Expected>
+    ensures { λ r. ⌜ made r Room-fits ⌝ }
+{
     let party = words.small()?;
     let mark = mark(words)?;
     words.word("fill")?;
@@ -62,14 +75,18 @@ fn listen<R: Worded>(words: &mut Words<'_>) -> Result<Call<R>, Expected> {
     Ok(Call::Listen { party, mark, fill })
 }
 
-fn since<R: Worded>(words: &mut Words<'_>) -> Result<Call<R>, Expected> {
+fn since<R: Worded>(words: &mut Words<'_>) -> Result<Call<R>, Expected>
+    ensures { λ r. ⌜ made r Room-fits ⌝ }
+{
     let mark = mark(words)?;
     let limit = limit(words)?;
     let room = room(words)?;
     Ok(Call::Since { mark, limit, room })
 }
 
-fn span<R: Worded>(words: &mut Words<'_>) -> Result<Call<R>, Expected> {
+fn span<R: Worded>(words: &mut Words<'_>) -> Result<Call<R>, Expected>
+    ensures { λ r. ⌜ made r Room-fits ⌝ }
+{
     let first = words.long()?;
     let last = words.long()?;
     let limit = limit(words)?;
@@ -82,12 +99,16 @@ fn span<R: Worded>(words: &mut Words<'_>) -> Result<Call<R>, Expected> {
     })
 }
 
-fn hand_back<R: Worded>(words: &mut Words<'_>) -> Result<Call<R>, Expected> {
+fn hand_back<R: Worded>(words: &mut Words<'_>) -> Result<Call<R>, Expected>
+    ensures { λ r. ⌜ made r Room-fits ⌝ }
+{
     words.word("back")?;
     Ok(Call::HandBack { key: key(words)? })
 }
 
-fn call<R: Worded>(words: &mut Words<'_>) -> Result<Call<R>, Expected> {
+fn call<R: Worded>(words: &mut Words<'_>) -> Result<Call<R>, Expected>
+    ensures { λ r. ⌜ made r Room-fits ⌝ }
+{
     match words.next() {
         Some("enter") => enter(words),
         Some("start") => Ok(Call::Start { key: key(words)? }),
@@ -106,7 +127,9 @@ fn call<R: Worded>(words: &mut Words<'_>) -> Result<Call<R>, Expected> {
 }
 
 // The call that a line tells.
-pub fn read_call<R: Worded>(line: &str) -> Result<Call<R>, Expected> {
+pub fn read_call<R: Worded>(line: &str) -> Result<Call<R>, Expected>
+    ensures { λ r. ⌜ made r Room-fits ⌝ }
+{
     let mut words = Words::of(line);
     let call = call(&mut words)?;
     words.end()?;

@@ -1,4 +1,6 @@
 // What a line should have had where it could not be read.
+ghost use Rattle.std.specs.declared.option.Option.the-variants.{Some};
+ghost use Rattle.wording.specs.Expecting.{expected-words};
 use std::fmt;
 
 #[derive(Clone, Copy)]
@@ -19,6 +21,8 @@ pub enum Expected {
 }
 
 pub impl fmt::Display for Expected as ExpectedDisplay {
+    ghost shown = { λ e. Some (expected-words e) };
+
     fn fmt<W: fmt::Write>(&self, f: &mut fmt::Formatter<W>) -> fmt::Result {
         match *self {
             Expected::Kind => f.write_str("messages or measured"),

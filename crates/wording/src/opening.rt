@@ -1,7 +1,6 @@
 // The first line: which book it is, and over which tray.
-ghost use Prim.Native.Nat.{_≤_};
 ghost use Rattle.std.specs.Vec.{made};
-ghost use Rattle.wording.specs.Sizes.{Fits};
+ghost use Rattle.wording.specs.Sizes.{Fits, Fits-if-any};
 use crate::Expected;
 use crate::Words;
 
@@ -59,7 +58,9 @@ fn either_part(words: &mut Words<'_>) -> Result<Part, Expected>
     }
 }
 
-fn tray(words: &mut Words<'_>) -> Result<(Part, Option<Part>), Expected> {
+fn tray(words: &mut Words<'_>) -> Result<(Part, Option<Part>), Expected>
+    ensures { λ r. ⌜ made r (λ parts. Fits (parts .0) × Fits-if-any (parts .1)) ⌝ }
+{
     match words.next() {
         Some("open") => Ok((open(words)?, None)),
         Some("packed") => Ok((packed(words)?, None)),
@@ -73,7 +74,9 @@ fn tray(words: &mut Words<'_>) -> Result<(Part, Option<Part>), Expected> {
 }
 
 // The book that the first line tells.
-pub fn read_opening(line: &str) -> Result<Opening, Expected> {
+pub fn read_opening(line: &str) -> Result<Opening, Expected>
+    ensures { λ r. ⌜ made r (λ opening. Fits (opening .first) × Fits-if-any (opening .second)) ⌝ }
+{
     let mut words = Words::of(line);
     let kind = which_kind(&mut words)?;
     words.word("book")?;
