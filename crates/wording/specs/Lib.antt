@@ -1,0 +1,5 @@
+pub mod Expecting
+pub mod Numbers
+pub mod Rooms
+pub mod Sizes
+pub mod Told
