@@ -1,4 +1,5 @@
--- What a call does to the list, as one of six ways. This is the only place that opens the steps of the book.
+-- What a call does to the list, as one of six ways. The steps of the book are opened here; besides, only Leaves opens a since
+-- with limit 1, and Orders the check of an entry's time.
 use Prim.Native.Nat.{ℕ, zero, suc, _+_, _-_, _*_, _%_, _<_, _≤_, max, min}
 use mathlib.Core.Path.{_≡_, refl, sym, ap, subst, subst₂, _∙_}
 use mathlib.Core.Logic.{_⊎_, inl, inr}
