@@ -16,7 +16,7 @@ use Rattle.std.proofs.shelf.Numerals.{Numerals, numerals-by-value, tells-digits
 use Rattle.std.proofs.shelf.Decimals.{digits-decimal, decimal-some, decimal-digit, first-decimal, decimal-value, value-decimal}
 use Rattle.wording.specs.Numbers.{Plain}
 
-own : Numerals (Digits 10) (value 10)
+pub own : Numerals (Digits 10) (value 10)
 own = numerals-by-value _ tells-digits
 
 no-plus : In 48 57 43 → ⊥

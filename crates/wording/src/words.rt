@@ -5,6 +5,7 @@ ghost use lib.Signed.{_≤ℤ_};
 ghost use Rattle.std.specs.Vec.{made};
 use crate::Expected;
 use crate::numbers::plain;
+use crate::numbers::tenths;
 use std::str::Split;
 
 #[derive(Drop)]
@@ -65,10 +66,12 @@ impl<'a> Words<'a> {
     pub fn tenths(&mut self) -> Result<i32, Expected>
         ensures { λ r. ⌜ made r (λ t. (negsuc 599 ≤ℤ t) × (t ≤ℤ pos 600)) ⌝ }
     {
-        match self.next() {
-            Some(word) => tenths_in(word),
-            None => Err(Expected::Temperature),
+        if let Some(word) = self.next()
+            && let Some(number) = tenths(word)
+        {
+            return Ok(number);
         }
+        Err(Expected::Temperature)
     }
 
     // No further word.
@@ -77,21 +80,5 @@ impl<'a> Words<'a> {
             None => Ok(()),
             Some(_) => Err(Expected::End),
         }
-    }
-}
-
-// No zero has a `-`.
-fn tenths_in(word: &str) -> Result<i32, Expected>
-    ensures { λ r. ⌜ made r (λ t. (negsuc 599 ≤ℤ t) × (t ≤ℤ pos 600)) ⌝ }
-{
-    match word.strip_prefix('-') {
-        Some(below) => match plain(below) {
-            Some(number) if number > 0 && number <= 600 => Ok(-(number as i32)),
-            _ => Err(Expected::Temperature),
-        },
-        None => match plain(word) {
-            Some(number) if number <= 600 => Ok(number as i32),
-            _ => Err(Expected::Temperature),
-        },
     }
 }
