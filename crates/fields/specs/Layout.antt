@@ -10,9 +10,9 @@ use Rattle.std.specs.declared.option.Option.{Option}
 use Rattle.std.specs.declared.option.Option.the-variants.{Some, None}
 use Rattle.std.specs.declared.result.Result.{Result}
 use Rattle.std.specs.declared.result.Result.the-variants.{Ok, Err}
-use Rattle.fields.specs.declared.Field.{Field}
-use Rattle.fields.specs.declared.Field.the-variants.{Method, Time, Position, Limit, FillLevel, Party, LastTime, Words, Status, FromTime, FromPosition, TillTime, TillPosition, Missed, Version, Count, Called, FrameField}
-use Rattle.fields.specs.declared.Misfit.{Misfit}
+use Rattle.fields.specs.declared.parts.Field.{Field}
+use Rattle.fields.specs.declared.parts.Field.the-variants.{Method, Time, Position, Limit, FillLevel, Party, LastTime, Words, Status, FromTime, FromPosition, TillTime, TillPosition, Missed, Version, Count, Called, FrameField}
+use Rattle.fields.specs.declared.parts.Misfit.{Misfit}
 
 -- a field: its tag, its value bytes and its offset
 pub record Told : Type 0 where

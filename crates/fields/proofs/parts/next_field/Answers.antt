@@ -5,7 +5,7 @@ use Rattle.std.specs.declared.option.Option.the-variants.{Some, None}
 use borrow.Author.Needs.{needs}
 use Rattle.fields.specs.Layout.{tell, parse-field}
 use Rattle.fields.proofs.Parsing.{parsed}
-use Rattle.fields.proofs.next_field.Needs as need
+use Rattle.fields.proofs.parts.next_field.Needs as need
 
 pub returns-in-Some : need.returns-in-Some
 returns-in-Some c =
