@@ -93,6 +93,7 @@ fn carry_out<R: Record, T: Tray<Slot = Slot>>(
     ensures held { λ r. ⌜ Held-key (r .1) (now (book .exit) .number) (now (book .exit) .state .key) ⌝ }
     ensures state { λ _. let b = now (book .entry) in ⌜ now (book .exit) .state ≡ step-state call (world (b .number) (b .state) (row (b .tray))) ⌝ }
     ensures slots { λ _. let b = now (book .entry) in ⌜ row (now (book .exit) .tray) ≡ step-row writes call (world (b .number) (b .state) (row (b .tray))) ⌝ }
+    ensures memory { λ _. ⌜ memory (now (book .exit) .tray) ≡ memory (now (book .entry) .tray) ⌝ }
     ensures number { λ _. ⌜ now (book .exit) .number ≡ now (book .entry) .number ⌝ }
 {
     match call {
@@ -159,6 +160,7 @@ pub fn run<R: Record, T: Tray<Slot = Slot> + Drop>(
 ) -> Result<Outcome<R, T>, AllocError>
     ensures answers { λ r. ⌜ made r (λ o. map answer-of (vec-items (o .replies)) ≡ answers reads writes (world number new-list (row tray)) (now (calls .entry))) ⌝ }
     ensures left { λ r. ⌜ made r (λ o. world (o .book .number) (o .book .state) (row (o .book .tray)) ≡ after writes (world number new-list (row tray)) (now (calls .entry))) ⌝ }
+    ensures memory { λ r. ⌜ made r (λ o. memory (o .book .tray) ≡ memory tray) ⌝ }
     ensures law { λ r. ⌜ made r (λ o. Throughout (record { means = means; writes = writes; reads = reads }) number (row tray) (now (calls .entry)) (map answer-of (vec-items (o .replies)))) ⌝ }
     ensures sound { λ r. ⌜ made r (λ o. Sound reads (world (o .book .number) (o .book .state) (row (o .book .tray)))) ⌝ }
     ensures key { λ r. ⌜ made r (λ o. Held-key (o .key) (o .book .number) (o .book .state .key)) ⌝ }

@@ -36,6 +36,7 @@ loop-call-again g c =
       does .held,
       (let l = c .push-reserved .ensures .len in let i = inv .3 in omega arith),
       (let k = c .push-reserved .ensures .capacity in let i = inv .4 in omega arith),
+      does .memory ∙ inv .5,
     )
 
 pub returns : need.returns
@@ -59,6 +60,7 @@ returns g c =
       answers = told;
       law = throughout kind (g .T·Tray .row (c .args .tray)) (g .R·Record·met .back) (c .args .number) (c .args .calls .now) given told;
       left = stands;
+      memory = inv .5 ∙ ap (λ t. g .T·Tray .memory t) (new .tray);
       sound = subst (λ (v : World). Sound reads v) (sym stands) (sound kind (g .T·Tray .row (c .args .tray)) (g .R·Record·met .back) (c .args .number) (c .args .calls .now));
       key = inv .2;
     }

@@ -20,3 +20,4 @@ Inv-loop-call g l =
     × Held-key (l .held) (l .book .number) (l .book .state .key)
     × (vec-len (l .replies) ≡ l .call-index)
     × (length (l .calls) ≤ vec-cap (l .replies))
+    × (g .T·Tray .memory (l .book .tray) ≡ g .T·Tray .memory (l .entry .book .tray))
