@@ -9,9 +9,9 @@ use Rattle.std.specs.declared.result.Result.the-variants.{Ok, Err}
 use Rattle.std.proofs.shelf.Tests.{cond-true, eq-eqb, eqb-true, not-false}
 use lib.Dec.{eqb}
 use mathlib.Core.Bool.{not, false}
-use Rattle.fields.specs.Reading.{S, big, sized}
+use Rattle.fields.specs.Reading.{Rest, big, sized}
 
-pub sized-ok : (n at : ℕ) (o : Result (List ℕ × S) ℕ) (v : List ℕ) (s : S) (k : ℕ) → Ok (v, s) ≡ o → length v ≡ n → k ≡ big v → Ok (k, s) ≡ sized n at o
+pub sized-ok : (n at : ℕ) (o : Result (List ℕ × Rest) ℕ) (v : List ℕ) (s : Rest) (k : ℕ) → Ok (v, s) ≡ o → length v ≡ n → k ≡ big v → Ok (k, s) ≡ sized n at o
 sized-ok n at o v s k e len is = ap (λ z. Ok (z, s)) is ∙ sym (cond-true _ _ _ (eq-eqb _ _ len)) ∙ ap (sized n at) e
 
 pub big-4 : (v : List ℕ) → length v ≡ 4 → getD v 0 0 * 16777216 + getD v 1 0 * 65536 + getD v 2 0 * 256 + getD v 3 0 ≡ big v

@@ -10,7 +10,7 @@ use Rattle.std.specs.declared.result.Result.the-variants.{Ok, Err}
 use Rattle.book.specs.declared.fault.BookFault.{BookFault}
 use Rattle.book.specs.declared.fault.BookFault.the-variants.{ParamInvalid, IntervalInvalid}
 use Rattle.fields.specs.declared.parts.Misfit.{Misfit}
-use Rattle.fields.specs.Reading.{S, word-at, half-at, byte-at, end-at, words-at}
+use Rattle.fields.specs.Reading.{Rest, word-at, half-at, byte-at, end-at, words-at}
 use Rattle.seals.specs.Fletcher.{is-sealed}
 use Rattle.requests.specs.declared.naming.Request.{Request}
 use Rattle.requests.specs.declared.naming.Request.the-variants.{Since, Oldest, Youngest, Span, Listen, Start, Stop, Release, Enter}
@@ -18,7 +18,7 @@ use Rattle.requests.specs.declared.faults.TelegramFault.{TelegramFault}
 use Rattle.requests.specs.declared.faults.TelegramFault.the-variants.{Length, NoBuffer, Seal, Form, NoMethod, Book}
 
 -- a field, and what comes after it
-abbrev pub then : {X : Type 0} → Result (X × S) ℕ → (X → S → Result Request TelegramFault) → Result Request TelegramFault
+abbrev pub then : {X : Type 0} → Result (X × Rest) ℕ → (X → Rest → Result Request TelegramFault) → Result Request TelegramFault
 then (Ok p) k = k (p .0) (p .1)
 then (Err at) k = Err (Form at)
 
@@ -27,26 +27,26 @@ abbrev pub ended : Result (Unit {0}) Misfit → Request → Result Request Teleg
 ended (Ok u) q = Ok q
 ended (Err m) q = Err (Form (m .at))
 
-abbrev pub since-at : S → Result Request TelegramFault
+abbrev pub since-at : Rest → Result Request TelegramFault
 since-at s = then (word-at 2 s) (λ time s. then (word-at 3 s) (λ position s. then (half-at 4 s) (λ limit s. ended (end-at s) (Since (time, position) limit))))
 
-abbrev pub span-at : S → Result Request TelegramFault
+abbrev pub span-at : Rest → Result Request TelegramFault
 span-at s = then (word-at 2 s) (λ first s. then (half-at 4 s) (λ limit s. then (word-at 7 s) (λ last s. ended (end-at s) (Span first last limit))))
 
-abbrev pub listen-at : S → Result Request TelegramFault
+abbrev pub listen-at : Rest → Result Request TelegramFault
 listen-at s = then (word-at 2 s) (λ time s. then (word-at 3 s) (λ position s. then (byte-at 5 s) (λ level s. then (byte-at 6 s) (λ party s. ended (end-at s) (Listen party (time, position) level)))))
 
-abbrev pub release-at : S → Result Request TelegramFault
+abbrev pub release-at : Rest → Result Request TelegramFault
 release-at s = then (word-at 3 s) (λ position s. ended (end-at s) (Release position))
 
-abbrev pub enter-at : S → Result Request TelegramFault
+abbrev pub enter-at : Rest → Result Request TelegramFault
 enter-at s = then (word-at 2 s) (λ time s. then (words-at 8 s) (λ words s. ended (end-at s) (Enter time words)))
 
-abbrev pub alone-at : S → Request → Result Request TelegramFault
+abbrev pub alone-at : Rest → Request → Result Request TelegramFault
 alone-at s q = ended (end-at s) q
 
 -- the methods, each with its fields in their order
-abbrev pub method-at : ℕ → S → Result Request TelegramFault
+abbrev pub method-at : ℕ → Rest → Result Request TelegramFault
 method-at m s =
     cond (eqb m 1) (since-at s) (cond (eqb m 2) (alone-at s Oldest) (cond (eqb m 3) (alone-at s Youngest)
     (cond (eqb m 4) (span-at s) (cond (eqb m 5) (listen-at s) (cond (eqb m 6) (alone-at s Start)
@@ -76,7 +76,7 @@ ranged (Err f) = Err f
 abbrev pub fields-of : List ℕ → List ℕ
 fields-of bs = take (length bs - 2) bs
 
-abbrev pub named-at : S → Result Request TelegramFault
+abbrev pub named-at : Rest → Result Request TelegramFault
 named-at s = then (half-at 1 s) (λ m s. method-at m s)
 
 abbrev pub intact-of : List ℕ → ℕ → Result (Unit {0}) TelegramFault

@@ -1,6 +1,6 @@
 // Telegrams read into requests: one function for the fields of each method.
 ghost use mathlib.Core.Path.{_≡_};
-ghost use Rattle.fields.specs.Reading.{state};
+ghost use Rattle.fields.specs.Reading.{rest-of};
 ghost use Rattle.requests.specs.Parsing.{since-at, span-at, listen-at, release-at, enter-at, alone-at, method-at, named-at, range-fault, intact-of, ranged, request-of, Worked-requests};
 use crate::Request;
 use crate::TelegramFault;
@@ -11,7 +11,7 @@ use fields::Reader;
 use seals::sealed;
 
 fn since(mut fields: Reader) -> Result<Request, TelegramFault>
-    ensures { λ r. ⌜ r ≡ since-at (state (fields .entry)) ⌝ }
+    ensures { λ r. ⌜ r ≡ since-at (rest-of (fields .entry)) ⌝ }
 {
     let time = fields.word(2)?;
     let position = fields.word(3)?;
@@ -24,7 +24,7 @@ fn since(mut fields: Reader) -> Result<Request, TelegramFault>
 }
 
 fn span(mut fields: Reader) -> Result<Request, TelegramFault>
-    ensures { λ r. ⌜ r ≡ span-at (state (fields .entry)) ⌝ }
+    ensures { λ r. ⌜ r ≡ span-at (rest-of (fields .entry)) ⌝ }
 {
     let first = fields.word(2)?;
     let limit = fields.half(4)?;
@@ -34,7 +34,7 @@ fn span(mut fields: Reader) -> Result<Request, TelegramFault>
 }
 
 fn listen(mut fields: Reader) -> Result<Request, TelegramFault>
-    ensures { λ r. ⌜ r ≡ listen-at (state (fields .entry)) ⌝ }
+    ensures { λ r. ⌜ r ≡ listen-at (rest-of (fields .entry)) ⌝ }
 {
     let time = fields.word(2)?;
     let position = fields.word(3)?;
@@ -49,7 +49,7 @@ fn listen(mut fields: Reader) -> Result<Request, TelegramFault>
 }
 
 fn release(mut fields: Reader) -> Result<Request, TelegramFault>
-    ensures { λ r. ⌜ r ≡ release-at (state (fields .entry)) ⌝ }
+    ensures { λ r. ⌜ r ≡ release-at (rest-of (fields .entry)) ⌝ }
 {
     let position = fields.word(3)?;
     fields.end()?;
@@ -57,7 +57,7 @@ fn release(mut fields: Reader) -> Result<Request, TelegramFault>
 }
 
 fn enter(mut fields: Reader) -> Result<Request, TelegramFault>
-    ensures { λ r. ⌜ r ≡ enter-at (state (fields .entry)) ⌝ }
+    ensures { λ r. ⌜ r ≡ enter-at (rest-of (fields .entry)) ⌝ }
 {
     let time = fields.word(2)?;
     let words = fields.words(8)?;
@@ -66,7 +66,7 @@ fn enter(mut fields: Reader) -> Result<Request, TelegramFault>
 }
 
 fn alone(fields: Reader, request: Request) -> Result<Request, TelegramFault>
-    ensures { λ r. ⌜ r ≡ alone-at (state (fields .entry)) request ⌝ }
+    ensures { λ r. ⌜ r ≡ alone-at (rest-of (fields .entry)) request ⌝ }
 {
     fields.end()?;
     Ok(request)
@@ -74,7 +74,7 @@ fn alone(fields: Reader, request: Request) -> Result<Request, TelegramFault>
 
 // The methods, each with its fields in their order.
 fn method(number: u16, fields: Reader) -> Result<Request, TelegramFault>
-    ensures { λ r. ⌜ r ≡ method-at number (state (fields .entry)) ⌝ }
+    ensures { λ r. ⌜ r ≡ method-at number (rest-of (fields .entry)) ⌝ }
 {
     match number {
         1 => since(fields),
@@ -120,14 +120,14 @@ fn intact(telegram: &[u8], room: usize) -> Result<(), TelegramFault>
 }
 
 fn named(mut fields: Reader) -> Result<Request, TelegramFault>
-    ensures { λ r. ⌜ r ≡ named-at (state (fields .entry)) ⌝ }
+    ensures { λ r. ⌜ r ≡ named-at (rest-of (fields .entry)) ⌝ }
 {
     let number = fields.half(1)?;
     method(number, fields)
 }
 
 fn read(fields: Reader) -> Result<Request, TelegramFault>
-    ensures { λ r. ⌜ r ≡ ranged (named-at (state (fields .entry))) ⌝ }
+    ensures { λ r. ⌜ r ≡ ranged (named-at (rest-of (fields .entry))) ⌝ }
 {
     let request = named(fields)?;
     in_range(&request)?;

@@ -1,7 +1,7 @@
 // Taking fields one after another.
 ghost use mathlib.Core.Path.{_≡_};
 ghost use lib.ListN.{length};
-ghost use Rattle.fields.specs.Reading.{state, step-told, plain, bytes-told, value-at, word-at, half-at, byte-at, end-at, listed-words, words-at, big};
+ghost use Rattle.fields.specs.Reading.{rest-of, step-told, plain, bytes-told, value-at, word-at, half-at, byte-at, end-at, listed-words, words-at, big};
 ghost use lib.Dec.{eqb};
 ghost use Rattle.fields.specs.Layout.{tell};
 use super::Reader;
@@ -62,7 +62,7 @@ fn value_of<'a>(f: Field<'a>) -> &'a [u8]
 impl<'a> Reader<'a> {
     // The value of the next field, which has this tag.
     pub fn value(&mut self, tag: u8) -> Result<&'a [u8], Misfit>
-        ensures { λ r. ⌜ step-told bytes-told r (state (now (self .exit))) ≡ value-at tag (state (now (self .entry))) ⌝ }
+        ensures { λ r. ⌜ step-told bytes-told r (rest-of (now (self .exit))) ≡ value-at tag (rest-of (now (self .entry))) ⌝ }
     {
         let at = self.at;
         let (field, after) = next_field(self.rest, at)?;
@@ -79,7 +79,7 @@ impl<'a> Reader<'a> {
 
     // A number of four bytes, of two, or of one.
     pub fn word(&mut self, tag: u8) -> Result<u32, Misfit>
-        ensures { λ r. ⌜ step-told plain r (state (now (self .exit))) ≡ word-at tag (state (now (self .entry))) ⌝ }
+        ensures { λ r. ⌜ step-told plain r (rest-of (now (self .exit))) ≡ word-at tag (rest-of (now (self .entry))) ⌝ }
     {
         let at = self.at;
         match self.value(tag)? {
@@ -89,7 +89,7 @@ impl<'a> Reader<'a> {
     }
 
     pub fn half(&mut self, tag: u8) -> Result<u16, Misfit>
-        ensures { λ r. ⌜ step-told plain r (state (now (self .exit))) ≡ half-at tag (state (now (self .entry))) ⌝ }
+        ensures { λ r. ⌜ step-told plain r (rest-of (now (self .exit))) ≡ half-at tag (rest-of (now (self .entry))) ⌝ }
     {
         let at = self.at;
         match self.value(tag)? {
@@ -99,7 +99,7 @@ impl<'a> Reader<'a> {
     }
 
     pub fn byte(&mut self, tag: u8) -> Result<u8, Misfit>
-        ensures { λ r. ⌜ step-told plain r (state (now (self .exit))) ≡ byte-at tag (state (now (self .entry))) ⌝ }
+        ensures { λ r. ⌜ step-told plain r (rest-of (now (self .exit))) ≡ byte-at tag (rest-of (now (self .entry))) ⌝ }
     {
         let at = self.at;
         match self.value(tag)? {
@@ -110,7 +110,7 @@ impl<'a> Reader<'a> {
 
     // Nothing more may come.
     pub fn end(&self) -> Result<(), Misfit>
-        ensures { λ r. ⌜ r ≡ end-at (state (now (self .entry))) ⌝ }
+        ensures { λ r. ⌜ r ≡ end-at (rest-of (now (self .entry))) ⌝ }
     {
         if self.rest.is_empty() {
             Ok(())
@@ -121,7 +121,7 @@ impl<'a> Reader<'a> {
 
     // Four words in sixteen bytes.
     pub fn words(&mut self, tag: u8) -> Result<[u32; 4], Misfit>
-        ensures { λ r. ⌜ step-told listed-words r (state (now (self .exit))) ≡ words-at tag (state (now (self .entry))) ⌝ }
+        ensures { λ r. ⌜ step-told listed-words r (rest-of (now (self .exit))) ≡ words-at tag (rest-of (now (self .entry))) ⌝ }
     {
         let at = self.at;
         let v = self.value(tag)?;
@@ -138,20 +138,20 @@ impl<'a> Reader<'a> {
 
     // At the first byte.
     pub fn new(bytes: &'a [u8]) -> Reader<'a>
-        ensures { λ r. ⌜ state r ≡ (now (bytes .entry), 0) ⌝ }
+        ensures { λ r. ⌜ rest-of r ≡ (now (bytes .entry), 0) ⌝ }
     {
         Reader { rest: bytes, at: 0 }
     }
 
     // Where the next field begins.
     pub fn offset(&self) -> usize
-        ensures { λ r. ⌜ r ≡ state (now (self .entry)) .1 ⌝ }
+        ensures { λ r. ⌜ r ≡ rest-of (now (self .entry)) .1 ⌝ }
     {
         self.at
     }
 
     pub fn is_done(&self) -> bool
-        ensures { λ r. ⌜ r ≡ eqb (length (state (now (self .entry)) .0)) 0 ⌝ }
+        ensures { λ r. ⌜ r ≡ eqb (length (rest-of (now (self .entry)) .0)) 0 ⌝ }
     {
         self.rest.is_empty()
     }

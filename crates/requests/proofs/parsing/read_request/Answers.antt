@@ -7,7 +7,7 @@ use Rattle.std.specs.declared.result.Result.{Result}
 use Rattle.std.specs.declared.result.Result.the-variants.{Ok}
 use Rattle.requests.specs.declared.naming.Request.{Request}
 use Rattle.requests.specs.declared.faults.TelegramFault.{TelegramFault}
-use Rattle.fields.specs.Reading.{S}
+use Rattle.fields.specs.Reading.{Rest}
 use Rattle.requests.specs.Parsing.{ranged, named-at, intact-of, after, request-of}
 use Rattle.requests.proofs.parsing.read_request.Needs as need
 
@@ -17,4 +17,4 @@ finish bs room r u a b =
     a ∙ ap (λ k. ranged (named-at (take k bs, 0))) e ∙ ap (λ o. after o (ranged (named-at (take (length bs - 2) bs, 0)))) b
 
 pub returns : need.returns
-returns c = finish (c .args .telegram .now) _ _ _ (c .read .ensures ∙ ap (λ (s : S). ranged (named-at s)) (c .new .ensures)) (c .in-Continue-intact .ensures tt)
+returns c = finish (c .args .telegram .now) _ _ _ (c .read .ensures ∙ ap (λ (s : Rest). ranged (named-at s)) (c .new .ensures)) (c .in-Continue-intact .ensures tt)
