@@ -2,7 +2,6 @@
 ghost use mathlib.Core.Path.{_≡_};
 ghost use lib.ListN.{length};
 ghost use Rattle.fields.specs.Reading.{rest-of, step-told, plain, bytes-told, value-at, word-at, half-at, byte-at, end-at, listed-words, words-at, big};
-ghost use lib.Dec.{eqb};
 ghost use Rattle.fields.specs.Layout.{tell};
 use super::Reader;
 use crate::Field;
@@ -141,19 +140,6 @@ impl<'a> Reader<'a> {
         ensures { λ r. ⌜ rest-of r ≡ (now (bytes .entry), 0) ⌝ }
     {
         Reader { rest: bytes, at: 0 }
-    }
-
-    // Where the next field begins.
-    pub fn offset(&self) -> usize
-        ensures { λ r. ⌜ r ≡ rest-of (now (self .entry)) .1 ⌝ }
-    {
-        self.at
-    }
-
-    pub fn is_done(&self) -> bool
-        ensures { λ r. ⌜ r ≡ eqb (length (rest-of (now (self .entry)) .0)) 0 ⌝ }
-    {
-        self.rest.is_empty()
     }
 }
 
