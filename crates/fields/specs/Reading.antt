@@ -2,15 +2,16 @@
 use mathlib.Core.Path.{_≡_}
 use mathlib.Core.List.{List, [], _∷_, _++_}
 use mathlib.Core.Bool.{Bool, true, false, _&&_, _||_, cond}
-use Prim.Native.Nat.{ℕ, _+_, _-_, _*_, _%_}
+use Prim.Native.Nat.{ℕ, _+_, _-_, _*_, _%_, min}
 use lib.Dec.{eqb, leb, ltb}
-use lib.ListN.{length, take, drop}
+use lib.ListN.{length, take, drop, getD}
 use denote.Ref.{RefT}
 use Rattle.std.specs.Iters.{folded}
 use Rattle.std.specs.declared.result.Result.{Result}
 use Rattle.std.specs.declared.result.Result.the-variants.{Ok, Err}
 use Rattle.fields.specs.declared.parts.Misfit.{Misfit}
 use Rattle.fields.specs.Layout.{Told, parse-field}
+use Rattle.fields.specs.declared.reader.RawFrame.{RawFrame}
 use Rattle.fields.specs.declared.reader.Reader.{Reader}
 
 -- what is left to read, and its offset
@@ -75,3 +76,21 @@ sized-words at (Err e) = Err e
 
 abbrev pub words-at : ℕ → Rest → Result (List ℕ × Rest) ℕ
 words-at tag s = sized-words (s .1) (value-at tag s)
+
+abbrev pub frame-told : RawFrame → RawFrame
+frame-told f = f
+
+-- kind number, time, position, words
+abbrev pub frame-of : List ℕ → RawFrame
+frame-of v = record { kind = getD v 0 0; time = big (take 4 (drop 1 v)); position = big (take 4 (drop 5 v)); words = words-of (drop 9 v) }
+
+abbrev pub sized-frame : ℕ → Result (List ℕ × Rest) ℕ → Result (RawFrame × Rest) ℕ
+sized-frame at (Ok p) = cond (eqb (length (p .0)) 25) (Ok (frame-of (p .0), p .1)) (Err at)
+sized-frame at (Err e) = Err e
+
+unfoldable pub frame-at : Rest → Result (RawFrame × Rest) ℕ
+frame-at s = sized-frame (s .1) (value-at 0x20 s)
+
+-- past n bytes, or past all that are left
+abbrev pub skipped : ℕ → Rest → Rest
+skipped n s = (drop (min n (length (s .0))) (s .0), s .1 + min n (length (s .0)))

@@ -8,4 +8,5 @@ mod reader;
 pub use parts::Field;
 pub use parts::Misfit;
 pub use parts::next_field;
+pub use reader::RawFrame;
 pub use reader::Reader;

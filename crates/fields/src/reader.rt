@@ -10,4 +10,14 @@ pub struct Reader<'a> {
     ghost short: { at + length (now rest) < 2 ^ 64 },
 }
 
+// The value of a frame's field.
+#[derive(Clone, Copy)]
+pub struct RawFrame {
+    pub kind: u8,
+    pub time: u32,
+    pub position: u32,
+    pub words: [u32; 4],
+}
+
+mod place;
 mod reading;

@@ -1,8 +1,10 @@
 // Taking fields one after another.
 ghost use mathlib.Core.Path.{_≡_};
+ghost use Prim.Native.Nat.{_≤_, min};
 ghost use lib.ListN.{length};
-ghost use Rattle.fields.specs.Reading.{rest-of, step-told, plain, bytes-told, value-at, word-at, half-at, byte-at, end-at, listed-words, words-at, big};
+ghost use Rattle.fields.specs.Reading.{rest-of, step-told, plain, bytes-told, value-at, word-at, half-at, byte-at, end-at, listed-words, words-at, frame-told, frame-at, skipped, big};
 ghost use Rattle.fields.specs.Layout.{tell};
+use super::RawFrame;
 use super::Reader;
 use crate::Field;
 use crate::Misfit;
@@ -76,6 +78,17 @@ impl<'a> Reader<'a> {
         Ok(value)
     }
 
+    // Passes over so many bytes, or what is left.
+    pub fn skip(&mut self, n: usize)
+        ensures { λ _. ⌜ rest-of (now (self .exit)) ≡ skipped n (rest-of (now (self .entry))) ⌝ }
+    {
+        let n = least(n, self.rest.len());
+        *self = Reader {
+            rest: &self.rest[n..],
+            at: self.at + n,
+        };
+    }
+
     // A number of four bytes, of two, or of one.
     pub fn word(&mut self, tag: u8) -> Result<u32, Misfit>
         ensures { λ r. ⌜ step-told plain r (rest-of (now (self .exit))) ≡ word-at tag (rest-of (now (self .entry))) ⌝ }
@@ -135,6 +148,28 @@ impl<'a> Reader<'a> {
         ])
     }
 
+    // The value of a frame's field: kind number, time, position, words.
+    pub fn frame(&mut self) -> Result<RawFrame, Misfit>
+        ensures { λ r. ⌜ step-told frame-told r (rest-of (now (self .exit))) ≡ frame-at (rest-of (now (self .entry))) ⌝ }
+    {
+        let at = self.at;
+        let v = self.value(0x20)?;
+        if v.len() != 25 {
+            return Err(Misfit { at });
+        }
+        Ok(RawFrame {
+            kind: v[0],
+            time: word_of(&v[1..5]),
+            position: word_of(&v[5..9]),
+            words: [
+                word_of(&v[9..13]),
+                word_of(&v[13..17]),
+                word_of(&v[17..21]),
+                word_of(&v[21..25]),
+            ],
+        })
+    }
+
     // At the first byte.
     pub fn new(bytes: &'a [u8]) -> Reader<'a>
         ensures { λ r. ⌜ rest-of r ≡ (now (bytes .entry), 0) ⌝ }
@@ -149,4 +184,11 @@ fn word_of(v: &[u8]) -> u32
     ensures { λ r. ⌜ r ≡ big (now (v .entry)) ⌝ }
 {
     u32::from_be_bytes([v[0], v[1], v[2], v[3]])
+}
+
+fn least(n: usize, left: usize) -> usize
+    ensures value { λ r. ⌜ r ≡ min n left ⌝ }
+    ensures bound { λ r. ⌜ r ≤ left ⌝ }
+{
+    if n < left { n } else { left }
 }
