@@ -1,4 +1,4 @@
--- Replies as lists of bytes: the one description of their layouts, for both ends.
+-- Replies as lists of bytes: their layouts, as they are written.
 use mathlib.Core.Path.{_≡_}
 use mathlib.Core.List.{List, [], _∷_, _++_}
 use mathlib.Core.Bool.{Bool, true, false, cond}
