@@ -1,5 +1,7 @@
 // Worked cases of the rules, and books that are worth nothing: theorems about the definitions that
 // the contracts of the book and of `run` use. The functions carry them and do nothing.
+#![tactic(auto)]
+
 ghost use Rattle.cases.specs.Trial.{Trial};
 ghost use Rattle.cases.specs.Worthless.{ShutOut};
 

@@ -10,7 +10,7 @@ use requests::TelegramFault;
 
 // A frame of this kind, with lawful words.
 fn record<R: Record>(raw: RawFrame) -> Result<Frame<R>, TelegramFault>
-    ensures { result ≡ record_of kind reads raw }
+    ensures { result ≡ record_of R.kind R.reads raw }
 {
     if raw.kind != R::kind() {
         return Err(TelegramFault::OtherKind);
@@ -26,14 +26,14 @@ fn record<R: Record>(raw: RawFrame) -> Result<Frame<R>, TelegramFault>
 }
 
 fn next_frame<R: Record>(fields: &mut Reader) -> Result<Frame<R>, TelegramFault>
-    ensures { frame_step result (rest_of fields.new) ≡ next_frame_of kind reads (rest_of fields.old) }
+    ensures { frame_step result (rest_of fields.new) ≡ next_frame_of R.kind R.reads (rest_of fields.old) }
 {
     let raw = fields.frame()?;
     record(raw)
 }
 
 fn check<R: Record>(mut fields: Reader, count: u16) -> Result<(), TelegramFault>
-    ensures { result ≡ fault_of (records_at kind reads count (rest_of fields.entry)) }
+    ensures { result ≡ fault_of (records_at R.kind R.reads count (rest_of fields.entry)) }
 {
     for i in 0..count {
         next_frame::<R>(&mut fields)?;
@@ -43,7 +43,7 @@ fn check<R: Record>(mut fields: Reader, count: u16) -> Result<(), TelegramFault>
 
 fn store<R: Record>(mut fields: Reader, count: u16, row: &mut [Frame<R>])
     requires { count ≤ length row.old }
-    ensures { row.new ≡ store_at kind reads count (rest_of fields.entry) row.old }
+    ensures { row.new ≡ store_at R.kind R.reads count (rest_of fields.entry) row.old }
 {
     for i in 0..count {
         match next_frame::<R>(&mut fields) {
@@ -59,8 +59,8 @@ pub fn read_frames<R: Record>(
     count: u16,
     row: &mut [Frame<R>],
 ) -> Result<(), TelegramFault>
-    ensures answer { result ≡ fault_of (fits_row count (length row.old) (records_at kind reads count (rest_of fields.entry))) }
-    ensures row { row.new ≡ stored_over (fits_row count (length row.old) (records_at kind reads count (rest_of fields.entry))) row.old }
+    ensures answer { result ≡ fault_of (fits_row count (length row.old) (records_at R.kind R.reads count (rest_of fields.entry))) }
+    ensures row { row.new ≡ stored_over (fits_row count (length row.old) (records_at R.kind R.reads count (rest_of fields.entry))) row.old }
 {
     check::<R>(fields, count)?;
     if row.len() < count as usize {

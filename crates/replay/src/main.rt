@@ -1,5 +1,7 @@
 // Replays a session of calls on a new count book: reads it from standard input, a line for each call,
 // and prints an answer for each.
+#![tactic(auto)]
+
 ghost use Rattle.std.specs.Prelude.{◌≡◌, is_some};
 ghost use Rattle.runs.specs.Steps.{HeldKey};
 
@@ -56,7 +58,7 @@ fn close<R: Record, T: Tray<Slot = Slot> + Drop>(
     match key {
         Some(key) => match book.hand_back(key) {
             Ok(()) => true,
-            Err(_) => unreachable(),
+            Err(_) => unreachable!(),
         },
         None => false,
     }
@@ -64,7 +66,8 @@ fn close<R: Record, T: Tray<Slot = Slot> + Drop>(
 
 fn print_answers<R: Worded>(rt: &HostRuntime, replies: &[Reply<R>]) -> io::Result<()> {
     for (line, reply) in (2..u64::MAX).zip(replies.iter()) {
-        rt.println(answer_line(rt.alloc(), line, reply)?)?;
+        let answer = answer_line(rt.alloc(), line, reply)?;
+        println!(rt; "{answer}")?;
     }
     Ok(())
 }
@@ -87,10 +90,11 @@ fn session<R: Worded, T: Tray<Slot = Slot> + Drop>(
     let still_out = close(book, key);
     print_answers(rt, replies.as_slice())?;
     if let Some(stop) = stop {
-        rt.println(stop)?;
+        println!(rt; "{stop}")?;
     }
     if still_out {
-        rt.println(key_line(heap, number)?)?;
+        let told = key_line(heap, number)?;
+        println!(rt; "{told}")?;
     }
     Ok(())
 }
@@ -166,6 +170,9 @@ fn main(rt: HostRuntime) -> io::Result<()> {
             Kind::Messages => hold::<Message>(&rt, opening, lines),
             Kind::Measured => hold::<Measured>(&rt, opening, lines),
         },
-        Err(expected) => rt.println(unreadable_line(heap, 1, expected)?),
+        Err(expected) => {
+            let told = unreadable_line(heap, 1, expected)?;
+            println!(rt; "{told}")
+        }
     }
 }

@@ -1,6 +1,8 @@
 // Replies, written into a caller's buffer: fields and then their seal. A buffer that is too short is
 // left as it is; bytes after a reply stay. Where a reply is written, its numbers fit the bytes that
 // carry them, so nothing of them is cut off.
+#![tactic(auto)]
+
 ghost use Rattle.std.specs.Prelude.{◌≡◌, ℕ, ◌+◌, ◌*◌, ◌≤◌, List, length, take};
 ghost use Rattle.std.specs.List.{flat_map, AllByRecursion as All};
 ghost use Rattle.book.specs.Told.{status_number};
@@ -85,8 +87,8 @@ fn put_four(out: &mut [u8], at: usize, four: [u32; 4]) -> usize
 fn put_frame<R: Record>(out: &mut [u8], at: usize, frame: &Frame<R>) -> usize
     requires { at + 28 ≤ length out.old }
     ensures next { result ≡ at + 28 }
-    ensures wrote { Wrote out.old out.new at result (frame_bytes kind writes frame.now) }
-    ensures fits { FrameFits writes frame.now }
+    ensures wrote { Wrote out.old out.new at result (frame_bytes R.kind R.writes frame.now) }
+    ensures fits { FrameFits R.writes frame.now }
 {
     let at = put(out, at, &[0x20, 0, 25, R::kind()]);
     let at = put(out, at, &frame.time.to_be_bytes());
@@ -97,8 +99,8 @@ fn put_frame<R: Record>(out: &mut [u8], at: usize, frame: &Frame<R>) -> usize
 fn put_frames<R: Record>(out: &mut [u8], start: usize, frames: &[Frame<R>]) -> usize
     requires { start + 28 * length frames.now ≤ length out.old }
     ensures next { result ≡ start + 28 * length frames.now }
-    ensures wrote { Wrote out.old out.new start result (flat_map (frame_bytes kind writes) frames.now) }
-    ensures fits { All (FrameFits writes) frames.now }
+    ensures wrote { Wrote out.old out.new start result (flat_map (frame_bytes R.kind R.writes) frames.now) }
+    ensures fits { All (FrameFits R.writes) frames.now }
 {
     let mut at = start;
     for frame in frames {
@@ -166,8 +168,8 @@ pub fn write_read<R: Record>(
     frames: &[Frame<R>],
 ) -> Option<usize>
     ensures length { result ≡ written_length (54 + 28 * length frames.now) out.old }
-    ensures bytes { out.new ≡ written_over (54 + 28 * length frames.now) (read_reply kind writes reading.now frames.now) out.old }
-    ensures fits { IfWritten result (ReadingFits reading.now × All (FrameFits writes) frames.now) }
+    ensures bytes { out.new ≡ written_over (54 + 28 * length frames.now) (read_reply R.kind R.writes reading.now frames.now) out.old }
+    ensures fits { IfWritten result (ReadingFits reading.now × All (FrameFits R.writes) frames.now) }
 {
     if out.len() < 54 || (out.len() - 54) / 28 < frames.len() {
         return None;

@@ -2,6 +2,8 @@
 // length (11), buffer (10), seal (12), the method field's form (13), the method (14), the form of the
 // rest (13), limit or party (15), interval (16). What the record's words say is checked when the call
 // is carried out.
+#![tactic(auto)]
+
 mod faults;
 mod naming;
 mod parsing;

@@ -47,10 +47,10 @@ fn show_other<R: Record, T: Tray<Slot = Slot>>(
             let answer = show(book, &key, call);
             match other.hand_back(key) {
                 Ok(()) => answer,
-                Err(_) => unreachable(),
+                Err(_) => unreachable!(),
             }
         }
-        Err(_) => unreachable(),
+        Err(_) => unreachable!(),
     }
 }
 
@@ -96,10 +96,10 @@ fn hand_other<R: Record, T: Tray<Slot = Slot>>(
             Ok(()) => Ok(()),
             Err(StillHeld { fault, key }) => match other.hand_back(key) {
                 Ok(()) => Err(fault),
-                Err(_) => unreachable(),
+                Err(_) => unreachable!(),
             },
         },
-        Err(_) => unreachable(),
+        Err(_) => unreachable!(),
     }
 }
 
@@ -146,7 +146,7 @@ pub(crate) fn taken<R: Record, T: Tray<Slot = Slot>>(
     match book.take() {
         Ok(key) => match held {
             None => (Ok(key.book()), Some(key)),
-            Some(_) => unreachable(),
+            Some(_) => unreachable!(),
         },
         Err(fault) => (Err(fault), held),
     }

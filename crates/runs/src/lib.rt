@@ -2,6 +2,8 @@
 // `run` carries out each call on the book as those before left it and gives all replies. Its
 // contract is the law over whole runs, told over calls and answers: what any reader receives, when
 // frames leave, and which parties are called.
+#![tactic(auto)]
+
 mod asked;
 mod keys;
 mod reading;

@@ -56,9 +56,9 @@ fn shown<R: Record, T: Tray<Slot = Slot>>(
     call: Keyed,
 ) -> (Result<Reply<R>, AllocError>, Option<ServiceKey>)
     requires { HeldKey held book.old.number book.old.state.key }
-    ensures answer { let b = book.old in IfOk result.0 (λ reply. answer_of reply ≡ keyed_answer call number (world b.number b.state (row b.tray))) }
+    ensures answer { let b = book.old in IfOk result.0 (λ reply. answer_of reply ≡ keyed_answer call number (world b.number b.state (T.row b.tray))) }
     ensures held { HeldKey result.1 book.new.number book.new.state.key }
-    ensures state { let b = book.old in book.new.state ≡ keyed_after call number (world b.number b.state (row b.tray)) }
+    ensures state { let b = book.old in book.new.state ≡ keyed_after call number (world b.number b.state (T.row b.tray)) }
     ensures tray { book.new.tray ≡ book.old.tray }
     ensures number { book.new.number ≡ book.old.number }
 {
@@ -75,11 +75,11 @@ fn carry_out<R: Record, T: Tray<Slot = Slot>>(
     call: Call<R>,
 ) -> (Result<Reply<R>, AllocError>, Option<ServiceKey>)
     requires { HeldKey held book.old.number book.old.state.key }
-    ensures answer { let b = book.old in IfOk result.0 (λ reply. answer_of reply ≡ step_answer reads call (world b.number b.state (row b.tray))) }
+    ensures answer { let b = book.old in IfOk result.0 (λ reply. answer_of reply ≡ step_answer R.reads call (world b.number b.state (T.row b.tray))) }
     ensures held { HeldKey result.1 book.new.number book.new.state.key }
-    ensures state { let b = book.old in book.new.state ≡ step_state call (world b.number b.state (row b.tray)) }
-    ensures slots { let b = book.old in row book.new.tray ≡ step_row writes call (world b.number b.state (row b.tray)) }
-    ensures memory { memory book.new.tray ≡ memory book.old.tray }
+    ensures state { let b = book.old in book.new.state ≡ step_state call (world b.number b.state (T.row b.tray)) }
+    ensures slots { let b = book.old in T.row book.new.tray ≡ step_row R.writes call (world b.number b.state (T.row b.tray)) }
+    ensures memory { T.memory book.new.tray ≡ T.memory book.old.tray }
     ensures number { book.new.number ≡ book.old.number }
 {
     match call {
@@ -128,7 +128,7 @@ fn give_up<R: Record, T: Tray<Slot = Slot> + Drop>(mut book: Book<R, T>, held: O
     match held {
         Some(key) => match book.hand_back(key) {
             Ok(()) => {}
-            Err(_) => unreachable(),
+            Err(_) => unreachable!(),
         },
         None => {}
     }
@@ -144,11 +144,11 @@ pub fn run<R: Record, T: Tray<Slot = Slot> + Drop>(
     blank: Frame<R>,
     calls: &[Call<R>],
 ) -> Result<Outcome<R, T>, AllocError>
-    ensures answers { IfOk result (λ o. map answer_of o.replies.items ≡ answers reads writes (world number new_list (row tray)) calls.now) }
-    ensures left { IfOk result (λ o. world o.book.number o.book.state (row o.book.tray) ≡ after writes (world number new_list (row tray)) calls.now) }
-    ensures memory { IfOk result (λ o. memory o.book.tray ≡ memory tray) }
-    ensures law { IfOk result (λ o. Throughout (record { means = means; writes = writes; reads = reads }) number (row tray) calls.now (map answer_of o.replies.items)) }
-    ensures sound { IfOk result (λ o. Sound reads (world o.book.number o.book.state (row o.book.tray))) }
+    ensures answers { IfOk result (λ o. map answer_of o.replies.items ≡ answers R.reads R.writes (world number new_list (T.row tray)) calls.now) }
+    ensures left { IfOk result (λ o. world o.book.number o.book.state (T.row o.book.tray) ≡ after R.writes (world number new_list (T.row tray)) calls.now) }
+    ensures memory { IfOk result (λ o. T.memory o.book.tray ≡ T.memory tray) }
+    ensures law { IfOk result (λ o. Throughout (record { means = R.means; writes = R.writes; reads = R.reads }) number (T.row tray) calls.now (map answer_of o.replies.items)) }
+    ensures sound { IfOk result (λ o. Sound R.reads (world o.book.number o.book.state (T.row o.book.tray))) }
     ensures key { IfOk result (λ o. HeldKey o.key o.book.number o.book.state.key) }
 {
     let mut replies = Vec::with_capacity(heap, calls.len())?;

@@ -1,4 +1,6 @@
 // The demonstration: count books for messages, used from beginning to end, through the worked cases.
+#![tactic(auto)]
+
 ghost use Rattle.std.specs.Prelude.{◌≡◌};
 
 use book::{Book, BookFault, KeyPlace, Mode, Reading, ServiceKey, Status};
@@ -107,7 +109,7 @@ fn give_back<R: Record, T: Tray<Slot = Slot>>(book: &mut Book<R, T>, key: Servic
 {
     match book.hand_back(key) {
         Ok(()) => {}
-        Err(_) => unreachable(),
+        Err(_) => unreachable!(),
     }
 }
 

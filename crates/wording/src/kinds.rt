@@ -17,21 +17,21 @@ pub trait Worded: Record {
 fn degree(words: &mut Words<'_>) -> Result<Degree, Expected> {
     match Degree::new(words.number(1, 6)?) {
         Some(degree) => Ok(degree),
-        None => unreachable(),
+        None => unreachable!(),
     }
 }
 
 fn channel(words: &mut Words<'_>) -> Result<Channel, Expected> {
     match Channel::new(words.number(1, 64)?) {
         Some(channel) => Ok(channel),
-        None => unreachable(),
+        None => unreachable!(),
     }
 }
 
 fn temperature(words: &mut Words<'_>) -> Result<Temperature, Expected> {
     match Temperature::new(words.tenths()?) {
         Some(temperature) => Ok(temperature),
-        None => unreachable(),
+        None => unreachable!(),
     }
 }
 
@@ -80,7 +80,7 @@ impl Worded for Measured {
                 walkers: 0,
                 temperature,
             },
-            _ => unreachable(),
+            _ => unreachable!(),
         }
     }
 

@@ -1,6 +1,8 @@
 // Words for the count book: a session's lines read into calls, and its replies told in plain words.
 // A line is words with one blank between two of them. Reading goes from left to right, and the first
 // word that does not fit is named by what was expected in its place.
+#![tactic(auto)]
+
 mod answers;
 mod calls;
 mod expected;
