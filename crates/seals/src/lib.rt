@@ -1,5 +1,7 @@
 // The seal of a telegram: two running sums mod 255 (a Fletcher checksum), and the two bytes that bring
 // both to 0. Any bytes followed by their seal are sealed.
+#![tactic(auto)]
+
 ghost use Rattle.std.specs.Prelude.{◌≡◌, ◌<◌};
 ghost use Rattle.seals.specs.Fletcher.{sums_of, is_sealed, seal_bytes, SealLaws};
 
