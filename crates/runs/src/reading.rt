@@ -41,8 +41,8 @@ fn ask<R: Record, T: Tray<Slot = Slot>>(
     read: Read,
     into: &mut [Frame<R>],
 ) -> Result<Reading, BookFault>
-    ensures answer { let b = book.now in let old = into.old in let slots = T.row b.tray in let room = length old in told result ≡ decided (read_checks read b.state slots room) (read_answer R.reads read b.state slots room) }
-    ensures row { let b = book.now in let old = into.old in let slots = T.row b.tray in let room = length old in into.new ≡ left (read_checks read b.state slots room) (laid (read_gives R.reads read b.state slots room) old) old }
+    ensures answer { let b = book.now in let old = into.old in let slots = T.Tray.row b.tray in let room = length old in told result ≡ decided (read_checks read b.state slots room) (read_answer R.reads read b.state slots room) }
+    ensures row { let b = book.now in let old = into.old in let slots = T.Tray.row b.tray in let room = length old in into.new ≡ left (read_checks read b.state slots room) (laid (read_gives R.reads read b.state slots room) old) old }
 {
     match read {
         Read::Since { mark, limit } => book.since(mark, limit, into),
@@ -60,7 +60,7 @@ pub(crate) fn read_own<R: Record, T: Tray<Slot = Slot>>(
     read: Read,
     room: u16,
 ) -> Result<Reply<R>, AllocError>
-    ensures { let b = book.now in let slots = T.row b.tray in IfOk result (λ reply. answer_of reply ≡ as_given (decided (read_checks read b.state slots room) (read_answer R.reads read b.state slots room)) (read_gives R.reads read b.state slots room)) }
+    ensures { let b = book.now in let slots = T.Tray.row b.tray in IfOk result (λ reply. answer_of reply ≡ as_given (decided (read_checks read b.state slots room) (read_answer R.reads read b.state slots room)) (read_gives R.reads read b.state slots room)) }
 {
     let mut row = row_of(heap, blank, room)?;
     let answer = ask(book, read, &mut row);

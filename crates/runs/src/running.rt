@@ -56,9 +56,9 @@ fn shown<R: Record, T: Tray<Slot = Slot>>(
     call: Keyed,
 ) -> (Result<Reply<R>, AllocError>, Option<ServiceKey>)
     requires { HeldKey held book.old.number book.old.state.key }
-    ensures answer { let b = book.old in IfOk result.0 (λ reply. answer_of reply ≡ keyed_answer call number (world b.number b.state (T.row b.tray))) }
+    ensures answer { let b = book.old in IfOk result.0 (λ reply. answer_of reply ≡ keyed_answer call number (world b.number b.state (T.Tray.row b.tray))) }
     ensures held { HeldKey result.1 book.new.number book.new.state.key }
-    ensures state { let b = book.old in book.new.state ≡ keyed_after call number (world b.number b.state (T.row b.tray)) }
+    ensures state { let b = book.old in book.new.state ≡ keyed_after call number (world b.number b.state (T.Tray.row b.tray)) }
     ensures tray { book.new.tray ≡ book.old.tray }
     ensures number { book.new.number ≡ book.old.number }
 {
@@ -75,11 +75,11 @@ fn carry_out<R: Record, T: Tray<Slot = Slot>>(
     call: Call<R>,
 ) -> (Result<Reply<R>, AllocError>, Option<ServiceKey>)
     requires { HeldKey held book.old.number book.old.state.key }
-    ensures answer { let b = book.old in IfOk result.0 (λ reply. answer_of reply ≡ step_answer R.reads call (world b.number b.state (T.row b.tray))) }
+    ensures answer { let b = book.old in IfOk result.0 (λ reply. answer_of reply ≡ step_answer R.reads call (world b.number b.state (T.Tray.row b.tray))) }
     ensures held { HeldKey result.1 book.new.number book.new.state.key }
-    ensures state { let b = book.old in book.new.state ≡ step_state call (world b.number b.state (T.row b.tray)) }
-    ensures slots { let b = book.old in T.row book.new.tray ≡ step_row R.writes call (world b.number b.state (T.row b.tray)) }
-    ensures memory { T.memory book.new.tray ≡ T.memory book.old.tray }
+    ensures state { let b = book.old in book.new.state ≡ step_state call (world b.number b.state (T.Tray.row b.tray)) }
+    ensures slots { let b = book.old in T.Tray.row book.new.tray ≡ step_row R.writes call (world b.number b.state (T.Tray.row b.tray)) }
+    ensures memory { T.Tray.memory book.new.tray ≡ T.Tray.memory book.old.tray }
     ensures number { book.new.number ≡ book.old.number }
 {
     match call {
@@ -144,11 +144,11 @@ pub fn run<R: Record, T: Tray<Slot = Slot> + Drop>(
     blank: Frame<R>,
     calls: &[Call<R>],
 ) -> Result<Outcome<R, T>, AllocError>
-    ensures answers { IfOk result (λ o. map answer_of o.replies.items ≡ answers R.reads R.writes (world number new_list (T.row tray)) calls.now) }
-    ensures left { IfOk result (λ o. world o.book.number o.book.state (T.row o.book.tray) ≡ after R.writes (world number new_list (T.row tray)) calls.now) }
-    ensures memory { IfOk result (λ o. T.memory o.book.tray ≡ T.memory tray) }
-    ensures law { IfOk result (λ o. Throughout (record { means = R.means; writes = R.writes; reads = R.reads }) number (T.row tray) calls.now (map answer_of o.replies.items)) }
-    ensures sound { IfOk result (λ o. Sound R.reads (world o.book.number o.book.state (T.row o.book.tray))) }
+    ensures answers { IfOk result (λ o. map answer_of o.replies.items ≡ answers R.reads R.writes (world number new_list (T.Tray.row tray)) calls.now) }
+    ensures left { IfOk result (λ o. world o.book.number o.book.state (T.Tray.row o.book.tray) ≡ after R.writes (world number new_list (T.Tray.row tray)) calls.now) }
+    ensures memory { IfOk result (λ o. T.Tray.memory o.book.tray ≡ T.Tray.memory tray) }
+    ensures law { IfOk result (λ o. Throughout (record { means = R.means; writes = R.writes; reads = R.reads }) number (T.Tray.row tray) calls.now (map answer_of o.replies.items)) }
+    ensures sound { IfOk result (λ o. Sound R.reads (world o.book.number o.book.state (T.Tray.row o.book.tray))) }
     ensures key { IfOk result (λ o. HeldKey o.key o.book.number o.book.state.key) }
 {
     let mut replies = Vec::with_capacity(heap, calls.len())?;
