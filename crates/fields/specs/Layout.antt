@@ -1,5 +1,5 @@
 -- Fields as lists of bytes: what a field tells, which tags there are with the lengths of their values, and how one is read.
-use Rattle.std.specs.Prelude.{◌≡◌, ℕ, ◌+◌, ◌-◌, ◌*◌, ◌%◌, Bool, true, false, cond, ◌&&◌, ◌||◌, List, [], ◌∷◌, ◌++◌, length, take, drop, Some, None, Ok, Err, Option, Result, ◌==◌, nat_le}
+use Rattle.std.specs.Prelude.{ℕ, ◌+◌, ◌*◌, Bool, false, cond, ◌&&◌, ◌||◌, List, [], ◌∷◌, length, take, drop, Some, None, Ok, Err, Option, Result, ◌==◌, nat_le}
 use Rattle.std.specs.Borrow.{Bor}
 use Rattle.fields.specs.declared.parts.Field.{Field}
 use Rattle.fields.specs.declared.parts.Field.TheVariants.{Method, Time, Position, Limit, FillLevel, Party, LastTime, Words, Status, FromTime, FromPosition, TillTime, TillPosition, Missed, Version, Count, Called, FrameField}

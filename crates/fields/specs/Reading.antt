@@ -1,5 +1,5 @@
 -- Reading fields one after another: what is taken, and what is left with its offset.
-use Rattle.std.specs.Prelude.{◌≡◌, ℕ, ◌+◌, ◌-◌, ◌*◌, ◌%◌, min, Bool, true, false, cond, ◌&&◌, ◌||◌, List, [], ◌∷◌, ◌++◌, length, take, drop, Ok, Err, fold, Result, ◌==◌, slice_index}
+use Rattle.std.specs.Prelude.{ℕ, ◌+◌, ◌*◌, min, cond, List, [], ◌∷◌, length, take, drop, Ok, Err, fold, Result, ◌==◌, slice_index}
 use Rattle.std.specs.Borrow.{Bor}
 use Rattle.fields.specs.declared.parts.Misfit.{Misfit}
 use Rattle.fields.specs.Layout.{Told, parse_field}

@@ -3,6 +3,7 @@
 // one length; a field that is cut off, has an unknown tag or another length does not fit.
 // A reader takes fields from the front one after another, each by the tag that is expected there.
 #![tactic(auto)]
+
 mod parts;
 mod reader;
 

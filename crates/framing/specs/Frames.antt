@@ -1,5 +1,5 @@
 -- Telegrams one after another in a list of bytes, each after its length.
-use Rattle.std.specs.Prelude.{ℕ, ◌+◌, ◌-◌, ◌*◌, ◌/◌, ◌%◌, cond, List, [], ◌∷◌, ◌++◌, length, take, drop, nat_le, slice_index}
+use Rattle.std.specs.Prelude.{ℕ, ◌+◌, ◌-◌, ◌*◌, ◌/◌, ◌%◌, cond, List, ◌∷◌, length, take, drop, nat_le, slice_index}
 use Rattle.framing.specs.declared.cutting.Piece.{Piece}
 use Rattle.framing.specs.declared.cutting.Piece.TheVariants.{Telegram, Incomplete, TooLong}
 

@@ -2,9 +2,9 @@ use Rattle.std.proofs.Common.{rules}
 use Rattle.fields.specs.Reading.{frame_at}
 use Rattle.fields.proofs.reader.Reader.frame.Goals as goal
 
-pub returns-in-err-v : goal.returns-in-err-v
+pub returns-in_err-v : goal.returns-in_err-v
 unfolding frame_at
-returns-in-err-v c = search rules
+returns-in_err-v c = search rules
 
 pub returns-then-v-ne25 : goal.returns-then-v-ne25
 unfolding frame_at
