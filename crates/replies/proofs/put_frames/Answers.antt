@@ -15,8 +15,8 @@ loop-frame-preserved g c =
     let i = c.loop-frame.frame-index in (
       omega arith,
       wrote_as (ap (λ f. flat_map one (take i all) ++ one f) c.frame-item.is ∙ joined_take one all i c.frame-item.result (omega arith))
-          (wrote_then c.loop-frame.invariant.1 c.put-frame-at.ensures.wrote),
-      All-more fits all i c.frame-item.result (omega arith) c.loop-frame.invariant.2 (subst fits c.frame-item.is c.put-frame-at.ensures.fits),
+          (wrote_then c.loop-frame.invariant.1 c.put_frame-at.ensures.wrote),
+      All-more fits all i c.frame-item.result (omega arith) c.loop-frame.invariant.2 (subst fits c.frame-item.is c.put_frame-at.ensures.fits),
     )
 
 pub returns : goal.returns

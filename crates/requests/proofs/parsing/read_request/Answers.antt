@@ -11,4 +11,4 @@ finish bs room r u a b =
     a ∙ ap (λ k. ranged (named_at (take k bs, 0))) e ∙ ap (λ o. after o (ranged (named_at (take (length bs - 2) bs, 0)))) b
 
 pub returns : goal.returns
-returns c = finish c.args.telegram.now _ _ _ (c.read.ensures ∙ ap (λ (s : Rest). ranged (named_at s)) c.new.ensures) c.in-ok-intact.ensures
+returns c = finish c.args.telegram.now _ _ _ (c.read.ensures ∙ ap (λ (s : Rest). ranged (named_at s)) c.new.ensures) c.in_ok-intact.ensures
