@@ -1,5 +1,5 @@
 -- The three layouts of a reply, as they are read.
-use Rattle.std.specs.Prelude.{◌≡◌, ℕ, zero, suc, ◌/◌, ◌%◌, Bool, true, false, cond, not, ◌&&◌, ◌||◌, List, [], ◌∷◌, length, Ok, Err, Result, ◌==◌, nat_le, nat_lt}
+use Rattle.std.specs.Prelude.{ℕ, zero, suc, ◌/◌, ◌%◌, Bool, cond, not, ◌&&◌, ◌||◌, List, [], ◌∷◌, length, Ok, Err, Result, ◌==◌, nat_le, nat_lt}
 use Rattle.book.specs.declared.answers.Status.{Status}
 use Rattle.book.specs.declared.answers.Status.TheVariants.{Follow, NoFollow, NoFrame}
 use Rattle.fields.specs.declared.parts.Misfit.{Misfit}

@@ -1,5 +1,5 @@
 -- A reply as it is read: what it says, and the frames that it brings.
-use Rattle.std.specs.Prelude.{◌≡◌, ℕ, List, [], ◌∷◌, ◌++◌, length, drop, Ok, Err, Result}
+use Rattle.std.specs.Prelude.{ℕ, List, [], ◌++◌, length, drop, Ok, Err, Result}
 use Rattle.records.specs.declared.fault.RecordFault.{RecordFault}
 use Rattle.records.specs.declared.frames.Frame.{Frame}
 use Rattle.fields.specs.Reading.{Rest, skipped}
@@ -8,7 +8,7 @@ use Rattle.requests.specs.Parsing.{fields_of}
 use Rattle.reading_end.specs.declared.reply.Reply.{Reply}
 use Rattle.reading_end.specs.declared.reply.Reply.TheVariants.{Status as Lone, Entered, Read}
 use Rattle.reading_end.specs.Layouts.{reply_at, formed, intact_of}
-use Rattle.reading_end.specs.Frames.{records_at, fits_row, stored_over}
+use Rattle.reading_end.specs.Frames.{records_at, fits_row}
 
 -- a read's frames stand after the 52 bytes from its status to its count; they are looked into before the row is
 abbrev pub frames_of : {R : Type 0} → ℕ → (List ℕ → Result R RecordFault) → ℕ → Reply → Rest → Result (List (Frame R)) TelegramFault

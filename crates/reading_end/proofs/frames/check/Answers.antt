@@ -6,12 +6,12 @@ use Rattle.reading_end.proofs.Storing.{fault_more, fault_stops}
 use Rattle.reading_end.proofs.frames.check.Goals as goal
 
 pub loop-i-preserved : goal.loop-i-preserved
-loop-i-preserved g c = sym (fault_more g.R.Record.kind g.R.Record.reads c.args.count c.loop-i.i (rest_of c.loop-i.fields) (rest_of c.next_frame_of.new.fields) _ (omega arith) c.in-ok-next-frame.ensures) ∙ c.loop-i.invariant
+loop-i-preserved g c = sym (fault_more g.R.Record.kind g.R.Record.reads c.args.count c.loop-i.i (rest_of c.loop-i.fields) (rest_of c.next_frame.new.fields) _ (omega arith) c.in_ok-next_frame.ensures) ∙ c.loop-i.invariant
 
-pub returns-in-err-next-frame : goal.returns-in-err-next-frame
-returns-in-err-next-frame g c =
-    let p = err_from_is_err_and c.from-residual.result c.from-residual.ensures.1 in
-    p.1 ∙ ap Err p.2 ∙ sym (fault_stops g.R.Record.kind g.R.Record.reads c.args.count c.loop-i.i (rest_of c.loop-i.fields) _ (omega arith) c.in-err-next-frame.ensures) ∙ c.loop-i.invariant
+pub returns-in_err-next_frame : goal.returns-in_err-next_frame
+returns-in_err-next_frame g c =
+    let p = err_from_is_err_and c.from_residual.result c.from_residual.ensures.1 in
+    p.1 ∙ ap Err p.2 ∙ sym (fault_stops g.R.Record.kind g.R.Record.reads c.args.count c.loop-i.i (rest_of c.loop-i.fields) _ (omega arith) c.in_err-next_frame.ensures) ∙ c.loop-i.invariant
 
 pub returns : goal.returns
 returns g c =

@@ -1,4 +1,4 @@
-use Rattle.std.proofs.Common.{◌≡◌, ◌-◌, ◌++◌, length, take, drop, sym, ap, ◌∙◌, arith}
+use Rattle.std.proofs.Common.{◌≡◌, ◌-◌, ◌++◌, take, drop, sym, ap, ◌∙◌, arith}
 use Rattle.std.proofs.lemmas.List.{take-append-drop}
 use Rattle.fields.specs.Reading.{rest_of}
 use Rattle.reading_end.specs.Frames.{store_at}
@@ -6,7 +6,7 @@ use Rattle.reading_end.proofs.Storing.{store_more, store_stops}
 use Rattle.reading_end.proofs.frames.store.Goals as goal
 
 pub loop-i-preserved : goal.loop-i-preserved
-loop-i-preserved g c = store_more g.R.Record.kind g.R.Record.reads c.args.count c.loop-i.i (rest_of c.loop-i.fields) (rest_of c.next_frame_of.new.fields) _ c.loop-i.row (omega arith) (omega arith) c.in-Ok.ensures ∙ c.loop-i.invariant
+loop-i-preserved g c = store_more g.R.Record.kind g.R.Record.reads c.args.count c.loop-i.i (rest_of c.loop-i.fields) (rest_of c.next_frame.new.fields) _ c.loop-i.row (omega arith) (omega arith) c.in-Ok.ensures ∙ c.loop-i.invariant
 
 pub returns-in-Err : goal.returns-in-Err
 returns-in-Err g c = store_stops g.R.Record.kind g.R.Record.reads c.args.count c.loop-i.i (rest_of c.loop-i.fields) _ c.loop-i.row c.in-Err.ensures ∙ c.loop-i.invariant

@@ -1,9 +1,6 @@
 use Rattle.std.proofs.Common.{◌≡◌, ℕ, ◌-◌, List, length, take, Ok, Result, ap, ◌∙◌, arith}
 use Rattle.records.specs.declared.fault.RecordFault.{RecordFault}
-use Rattle.records.specs.declared.frames.Frame.{Frame}
-use Rattle.requests.specs.declared.faults.TelegramFault.{TelegramFault}
 use Rattle.fields.specs.Reading.{Rest}
-use Rattle.reading_end.specs.declared.reply.Reply.{Reply}
 use Rattle.reading_end.specs.Layouts.{intact_of}
 use Rattle.reading_end.specs.Replies.{told_at, if_intact, reply_of, answer_of, row_after}
 use Rattle.reading_end.proofs.reading.read_reply.Goals as goal
@@ -18,7 +15,7 @@ whole kind reads bs room s u at b =
 
 pub returns : goal.returns
 returns g c =
-    let same = whole g.R.Record.kind g.R.Record.reads c.args.bytes.now (length c.args.row.now) _ _ c.new.ensures c.in-ok-intact.ensures in
+    let same = whole g.R.Record.kind g.R.Record.reads c.args.bytes.now (length c.args.row.now) _ _ c.new.ensures c.in_ok-intact.ensures in
     record {
       answer = c.read.ensures.answer ∙ ap answer_of same;
       row = c.read.ensures.row ∙ ap (λ o. row_after o c.args.row.now) same;
