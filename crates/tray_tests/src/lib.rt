@@ -1,5 +1,7 @@
 // Tests of the trays, and proved calls that show what a user of trays learns: code over any tray, and
 // what becomes of the memory that was lent.
+#![tactic(auto)]
+
 ghost use Rattle.std.specs.Prelude.{◌≡◌, ◌++◌, slice_set};
 ghost use Rattle.trays.specs.Rows.{put_answer};
 ghost use Rattle.trays.specs.Limit.{used, unused, joined};
@@ -11,9 +13,9 @@ use trays::{Annex, OpenTray, PackedTray, Slot, Tray, TrayFault};
 
 // Copies one slot to another, in any tray.
 pub fn copy_slot<T: Tray>(tray: &mut T, from: u32, to: u32) -> Result<(), TrayFault>
-    ensures answer { result ≡ copied_answer (row tray.old) from to }
-    ensures after { row tray.new ≡ copied_row (row tray.old) from to }
-    ensures memory { memory tray.new ≡ memory tray.old }
+    ensures answer { result ≡ copied_answer (T.Tray.row tray.old) from to }
+    ensures after { T.Tray.row tray.new ≡ copied_row (T.Tray.row tray.old) from to }
+    ensures memory { T.Tray.memory tray.new ≡ T.Tray.memory tray.old }
 {
     let slot = tray.look(from)?;
     tray.put(to, slot)
