@@ -1,7 +1,7 @@
 -- What a call does to the list, as one of six ways. The steps of the book are opened here; besides, only Leaves opens a since
 -- with limit 1, and Orders the check of an entry's time.
-use Rattle.std.proofs.Common.{◌≡◌, ℕ, zero, suc, ◌+◌, ◌-◌, ◌*◌, ◌%◌, ◌<◌, ◌≤◌, min, max, Bool, true, false, cond, not, ◌&&◌, ◌||◌, eqb, ltb, leb, ◌⊎◌, List, [], ◌∷◌, ◌++◌, map, length, get_or, take, set, Some, None, Option, sym, refl, ap, ◌∙◌, subst, subst₂, inl, inr, add-one, arith, length-set}
-use Rattle.std.proofs.lemmas.Bool.{ltb-false, eqb-false, or_parts, leb-true, leb-false}
+use Rattle.std.proofs.Common.{◌≡◌, ℕ, suc, ◌+◌, ◌-◌, ◌<◌, ◌≤◌, min, max, Bool, true, false, cond, ltb, List, [], ◌∷◌, map, length, take, set, Some, None, Option, sym, refl, subst₂, add-one, arith, length-set}
+use Rattle.std.proofs.lemmas.Bool.{ltb-false, or_parts}
 use Rattle.std.proofs.lemmas.Bool.Decides.{nat_tests}
 use Rattle.trays.specs.declared.slots.Slot.{Slot}
 use Rattle.records.specs.declared.frames.Frame.{Frame}
@@ -12,18 +12,16 @@ use Rattle.book.specs.declared.state.ListState.{ListState}
 use Rattle.book.specs.declared.state.Mode.{Mode}
 use Rattle.book.specs.declared.state.Mode.TheVariants.{Ring, Keep}
 use Rattle.book.specs.Told.{Checks, verdict, tell, keep}
-use Rattle.book.specs.State.{Mark, listening, started, stopped, moded, released, heard, with_key, called}
+use Rattle.book.specs.State.{Mark, listening, heard, with_key, called}
 use Rattle.book.specs.State.{entered as entered_list}
-use Rattle.book.specs.Calls.{full, enter_checks, enter_answer, enter_row, start_checks, stop_checks, mode_checks, release_checks, take_checks, key_checks}
+use Rattle.book.specs.Calls.{full, enter_checks, enter_answer, enter_row, release_checks}
 use Rattle.book.specs.Reads.{frame_at, frames, status_of_read, till_mark_of, listen_checks, since_checks, since_answer, since_gives}
 use Rattle.runs.specs.declared.asked.Call.{Call}
 use Rattle.runs.specs.declared.asked.Call.TheVariants.{Enter, Start, Stop, SetMode, Release, Listen, Since, Oldest, Youngest, Span, Take, HandBack}
 use Rattle.runs.specs.declared.asked.Keyed.{Keyed}
-use Rattle.runs.specs.declared.asked.Keyed.TheVariants as Keyed
 use Rattle.runs.specs.declared.asked.Read.{Read}
-use Rattle.runs.specs.declared.asked.Read.TheVariants as Read
 use Rattle.runs.specs.Answers.{Answer, Answer.refused, Answer.done, Answer.entered, Answer.gave, Answer.key, as_done, as_entered, as_given, as_key}
-use Rattle.runs.specs.Steps.{World, world, step, step_answer, keyed_checks, keyed_state, read_checks, read_answer, read_gives}
+use Rattle.runs.specs.Steps.{World, world, step, step_answer, keyed_checks, keyed_state, read_answer, read_gives}
 use Rattle.runs.specs.Kinds.{Kind}
 use Rattle.runs.proofs.Stores.{Store, store_of, put, left_to, calls_at}
 

@@ -1,5 +1,5 @@
 -- The frames of a read, taken from its row again.
-use Rattle.std.proofs.Common.{◌≡◌, ℕ, Bool, true, false, List, [], ◌∷◌, ◌++◌, length, take, drop, Some, None, Ok, Err, Option, Result, sym, refl, ap, ◌∙◌, arith, take_at}
+use Rattle.std.proofs.Common.{◌≡◌, ℕ, List, length, take, Some, None, Ok, Err, Option, Result, sym, refl, ap, ◌∙◌, arith, take_at}
 use Rattle.records.specs.declared.frames.Frame.{Frame}
 use Rattle.book.specs.declared.answers.Reading.{Reading}
 use Rattle.book.specs.declared.fault.BookFault.{BookFault}

@@ -1,29 +1,28 @@
 -- When frames leave.
-use Rattle.std.proofs.Common.{◌≡◌, ℕ, zero, suc, ◌+◌, ◌-◌, ◌*◌, ◌/◌, ◌%◌, ◌<◌, ◌≤◌, min, max, Bool, true, false, cond, not, ◌&&◌, eqb, ltb, leb, ◌≢◌, ◌⊎◌, ◌↔◌, List, [], ◌∷◌, ◌++◌, map, length, get_or, take, set, Some, None, Ok, Err, Option, Result, sym, refl, ap, ◌∙◌, subst, ap₂, subst₂, inl, inr, arith, length-append}
+use Rattle.std.proofs.Common.{◌≡◌, ℕ, zero, suc, ◌+◌, ◌-◌, ◌<◌, ◌≤◌, max, Bool, true, false, cond, not, ◌&&◌, ltb, ◌↔◌, List, [], ◌∷◌, ◌++◌, length, take, Some, None, Result, sym, refl, ap, ◌∙◌, subst, ap₂, inl, inr, arith, length-append}
 use Rattle.std.proofs.lemmas.Bool.{cases_lt, le-ltb, eq-eqb, not_from_true, and_right, and_left, or_from}
 use Rattle.trays.specs.declared.slots.Slot.{Slot}
-use Rattle.records.specs.declared.fault.RecordFault.{RecordFault}
 use Rattle.records.specs.declared.frames.Frame.{Frame}
 use Rattle.book.specs.declared.answers.Reading.{Reading}
 use Rattle.book.specs.declared.listeners.Listener.{Listener}
-use Rattle.book.specs.State.{Mark, listening}
+use Rattle.book.specs.State.{Mark}
 use Rattle.runs.specs.declared.asked.Call.{Call}
-use Rattle.runs.specs.declared.asked.Call.TheVariants.{Enter, Start, Stop, SetMode, Release, Listen, Since, Oldest, Youngest, Span, Take, HandBack}
-use Rattle.runs.specs.Answers.{Answer, Answer.refused, Answer.done, Answer.entered, Answer.gave, Answer.key}
+use Rattle.runs.specs.declared.asked.Call.TheVariants.{Enter, Start, Release, Since}
+use Rattle.runs.specs.Answers.{Answer, Answer.done, Answer.entered, Answer.gave}
 use Rattle.runs.specs.Histories.{Event, Event.◌⟶◌, History, ◌∈◌, ◌∈◌.here, ◌∈◌.there}
-use Rattle.runs.specs.Kinds.{Kind, Same, Keeps}
+use Rattle.runs.specs.Kinds.{Kind, Keeps}
 use Rattle.trays.specs.declared.fault.TrayFault.{TrayFault}
 use Rattle.book.specs.Told.{tell}
 use Rattle.book.specs.State.{new_list}
 use Rattle.book.specs.Reads.{slot_of, tells_time, unknown, frame_at, frames, since_answer, since_gives}
 use Rattle.runs.specs.Answers.{as_given}
 use Rattle.runs.specs.Steps.{World, world, step_answer}
-use Rattle.runs.specs.Law.{entries, Accepted, Rising, AsEntered, Gone, MarkBefore, Held}
-use Rattle.runs.proofs.Deeds.{Quiet, Did, did, SinceGave, held_frames}
+use Rattle.runs.specs.Law.{entries, Accepted, Gone, Held}
+use Rattle.runs.proofs.Deeds.{Quiet, Did}
 use Rattle.runs.proofs.Deeds.{Quiet.refusal, Quiet.stopped_list, Quiet.modal, Quiet.oldest_given, Quiet.youngest_given, Quiet.span_given, Quiet.taken, Quiet.handed}
 use Rattle.runs.proofs.Deeds.{Did.entry, Did.started_list, Did.released_to, Did.listened, Did.gives, Did.quiet}
 use Rattle.runs.proofs.Stores.{Store, store_of, put_left}
-use Rattle.runs.proofs.Tied.{Inv, inv_did, newest, quiet_count, quiet_no, quiet_none, is_entry, entries_are, position_in, answer_in}
+use Rattle.runs.proofs.Tied.{Inv, inv_did, newest, quiet_count, quiet_none, entries_are, position_in, answer_in}
 use Rattle.runs.proofs.Sinces.{learns, frame_is, frames_one, since_gave}
 
 pub none_in : {A : Type 0} {x : A} → x ∈ [] → ⊥

@@ -1,28 +1,24 @@
 -- Held times never fall.
-use Rattle.std.proofs.Common.{◌≡◌, ℕ, zero, suc, ◌+◌, ◌-◌, ◌*◌, ◌/◌, ◌%◌, ◌<◌, ◌≤◌, min, max, Bool, true, false, cond, not, ◌&&◌, eqb, ltb, leb, ◌≢◌, ◌⊎◌, ◌↔◌, List, [], ◌∷◌, ◌++◌, map, length, get_or, take, set, Some, None, Ok, Err, Option, Result, sym, refl, ap, ◌∙◌, subst, ap₂, subst₂, inl, inr, arith}
+use Rattle.std.proofs.Common.{◌≡◌, ℕ, suc, ◌<◌, ◌≤◌, Bool, List, [], ◌∷◌, length, Some, None, Ok, Err, Option, Result, sym, refl, ap, ◌∙◌, inl, inr, arith}
 use Rattle.std.proofs.lemmas.Bool.{cases_lt, ltb-false}
 use Rattle.trays.specs.declared.slots.Slot.{Slot}
 use Rattle.records.specs.declared.fault.RecordFault.{RecordFault}
 use Rattle.records.specs.declared.frames.Frame.{Frame}
-use Rattle.book.specs.declared.answers.Reading.{Reading}
 use Rattle.book.specs.declared.listeners.Listener.{Listener}
-use Rattle.book.specs.State.{Mark, listening}
 use Rattle.runs.specs.declared.asked.Call.{Call}
-use Rattle.runs.specs.declared.asked.Call.TheVariants.{Enter, Start, Stop, SetMode, Release, Listen, Since, Oldest, Youngest, Span, Take, HandBack}
-use Rattle.runs.specs.Answers.{Answer, Answer.refused, Answer.done, Answer.entered, Answer.gave, Answer.key}
-use Rattle.runs.specs.Histories.{Event, Event.◌⟶◌, History, ◌∈◌, ◌∈◌.here, ◌∈◌.there}
-use Rattle.runs.specs.Kinds.{Kind, Same, Keeps}
-use Rattle.book.specs.declared.fault.BookFault.{BookFault}
+use Rattle.runs.specs.declared.asked.Call.TheVariants.{Enter}
+use Rattle.runs.specs.Answers.{Answer, Answer.entered}
+use Rattle.runs.specs.Histories.{History}
+use Rattle.runs.specs.Kinds.{Kind, Keeps}
 use Rattle.trays.specs.declared.fault.TrayFault.{TrayFault}
 use Rattle.book.specs.Told.{verdict, tell}
 use Rattle.book.specs.State.{new_list}
 use Rattle.book.specs.Calls.{enter_checks, enter_answer}
-use Rattle.book.specs.Reads.{slot_of, frame_of, frame_in, frame_at}
+use Rattle.book.specs.Reads.{slot_of, frame_of, frame_in}
 use Rattle.runs.specs.Answers.{as_entered}
 use Rattle.runs.specs.Sound.{Sound}
 use Rattle.runs.specs.Steps.{World, world, step, step_answer, after}
-use Rattle.runs.proofs.Deeds.{Quiet, Did, did, SinceGave, held_frames}
-use Rattle.runs.proofs.Deeds.{Quiet.refusal, Quiet.stopped_list, Quiet.modal, Quiet.oldest_given, Quiet.youngest_given, Quiet.span_given, Quiet.taken, Quiet.handed}
+use Rattle.runs.proofs.Deeds.{Did, did}
 use Rattle.runs.proofs.Deeds.{Did.entry, Did.started_list, Did.released_to, Did.listened, Did.gives, Did.quiet}
 use Rattle.runs.proofs.Deeds.{clear}
 use Rattle.runs.proofs.Stores.{Store, store_of, framed, put, left_to, apart, at_new, at_old, put_left}

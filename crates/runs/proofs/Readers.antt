@@ -1,19 +1,17 @@
 -- What any reader has received.
-use Rattle.std.proofs.Common.{◌≡◌, ℕ, zero, suc, ◌+◌, ◌-◌, ◌*◌, ◌/◌, ◌%◌, ◌<◌, ◌≤◌, min, max, Bool, true, false, cond, not, ◌&&◌, eqb, ltb, leb, ◌≢◌, ◌⊎◌, ◌↔◌, List, [], ◌∷◌, ◌++◌, map, length, Some, None, Ok, Err, Option, Result, sym, refl, ap, ◌∙◌, subst, ap₂, subst₂, inl, inr, arith, length-append}
+use Rattle.std.proofs.Common.{◌≡◌, ℕ, ◌+◌, ◌≤◌, List, ◌∷◌, length, sym, refl, ap, subst, subst₂, arith, length-append}
 use Rattle.trays.specs.declared.slots.Slot.{Slot}
-use Rattle.records.specs.declared.fault.RecordFault.{RecordFault}
 use Rattle.records.specs.declared.frames.Frame.{Frame}
 use Rattle.book.specs.declared.answers.Reading.{Reading}
 use Rattle.book.specs.declared.listeners.Listener.{Listener}
-use Rattle.book.specs.State.{Mark, listening}
+use Rattle.book.specs.State.{Mark}
 use Rattle.runs.specs.declared.asked.Call.{Call}
-use Rattle.runs.specs.declared.asked.Call.TheVariants.{Enter, Start, Stop, SetMode, Release, Listen, Since, Oldest, Youngest, Span, Take, HandBack}
-use Rattle.runs.specs.Answers.{Answer, Answer.refused, Answer.done, Answer.entered, Answer.gave, Answer.key}
-use Rattle.runs.specs.Histories.{Event, Event.◌⟶◌, History, ◌∈◌, ◌∈◌.here, ◌∈◌.there}
+use Rattle.runs.specs.declared.asked.Call.TheVariants.{Since}
+use Rattle.runs.specs.Answers.{Answer, Answer.gave}
+use Rattle.runs.specs.Histories.{Event.◌⟶◌, History}
 use Rattle.runs.specs.Kinds.{Kind, Same, Keeps}
 use Rattle.runs.specs.Law.{entries, Rising, AsEntered, Reader, Reader.begins, Reader.waits, Reader.reads_on}
-use Rattle.runs.proofs.Deeds.{Quiet, Did, did, SinceGave, held_frames}
-use Rattle.runs.proofs.Deeds.{Quiet.refusal, Quiet.stopped_list, Quiet.modal, Quiet.oldest_given, Quiet.youngest_given, Quiet.span_given, Quiet.taken, Quiet.handed}
+use Rattle.runs.proofs.Deeds.{Did}
 use Rattle.runs.proofs.Deeds.{Did.entry, Did.started_list, Did.released_to, Did.listened, Did.gives, Did.quiet}
 use Rattle.runs.proofs.Stores.{Store}
 use Rattle.runs.proofs.Sinces.{learns, Learns, top, rising_append, rising_lower, top_append, entered_append, entered_later}

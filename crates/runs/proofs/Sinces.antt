@@ -1,29 +1,26 @@
 -- What a since gives.
-use Rattle.std.proofs.Common.{◌≡◌, ℕ, zero, suc, ◌+◌, ◌-◌, ◌*◌, ◌/◌, ◌%◌, ◌<◌, ◌≤◌, min, max, Bool, true, false, cond, not, ◌&&◌, eqb, ltb, leb, ◌≢◌, ◌⊎◌, ◌↔◌, List, [], ◌∷◌, ◌++◌, map, length, get_or, take, set, Some, None, Ok, Err, Option, Result, sym, refl, ap, ◌∙◌, subst, ap₂, subst₂, inl, inr, arith, length-append, length-take}
-use Rattle.std.proofs.lemmas.Bool.{cases_lt, ltb-false, ltb-true, eqb-true, eqb-false, cases_Bool}
-use Rattle.std.proofs.lemmas.Bool.Decides.{nat_tests}
-use Rattle.trays.specs.declared.slots.Slot.{Slot}
+use Rattle.std.proofs.Common.{◌≡◌, ℕ, zero, suc, ◌+◌, ◌-◌, ◌<◌, ◌≤◌, min, max, Bool, true, false, cond, eqb, ltb, ◌⊎◌, List, [], ◌∷◌, ◌++◌, length, take, Ok, Err, Result, sym, refl, ap, ◌∙◌, subst, subst₂, arith, length-take}
+use Rattle.std.proofs.lemmas.Bool.{ltb-false, eqb-true}
 use Rattle.records.specs.declared.fault.RecordFault.{RecordFault}
 use Rattle.records.specs.declared.frames.Frame.{Frame}
 use Rattle.book.specs.declared.answers.Reading.{Reading}
 use Rattle.book.specs.declared.listeners.Listener.{Listener}
-use Rattle.book.specs.State.{Mark, listening}
-use Rattle.runs.specs.declared.asked.Call.{Call}
-use Rattle.runs.specs.declared.asked.Call.TheVariants.{Enter, Start, Stop, SetMode, Release, Listen, Since, Oldest, Youngest, Span, Take, HandBack}
-use Rattle.runs.specs.Answers.{Answer, Answer.refused, Answer.done, Answer.entered, Answer.gave, Answer.key}
-use Rattle.runs.specs.Histories.{Event, Event.◌⟶◌, History, ◌∈◌, ◌∈◌.here, ◌∈◌.there}
+use Rattle.book.specs.State.{Mark}
+use Rattle.runs.specs.declared.asked.Call.TheVariants.{Since}
+use Rattle.runs.specs.Answers.{Answer, Answer.gave}
+use Rattle.runs.specs.Histories.{Event, History, ◌∈◌.there}
 use Rattle.runs.specs.Kinds.{Kind, Same, Keeps}
 use Rattle.records.specs.Laws.{ReadsBack}
 use Rattle.book.specs.declared.fault.BookFault.{BookFault}
 use Rattle.book.specs.declared.answers.Status.{Status}
 use Rattle.book.specs.declared.answers.Status.TheVariants.{Follow, NoFollow, NoFrame}
 use Rattle.book.specs.Told.{status_number}
-use Rattle.book.specs.Reads.{slot_of, frame_of, frame_in, frame_at, then_on, frames, till_mark_of, status_of_read}
-use Rattle.runs.specs.Steps.{World, step, step_answer}
-use Rattle.runs.specs.Law.{entries, Accepted, Rising, AsEntered, Ends}
+use Rattle.book.specs.Reads.{frame_of, frame_in, frame_at, then_on, frames, till_mark_of, status_of_read}
+use Rattle.runs.specs.Steps.{World, step_answer}
+use Rattle.runs.specs.Law.{Accepted, Rising, AsEntered, Ends}
 use Rattle.runs.proofs.Deeds.{Quiet, Did, did, SinceGave, held_frames}
-use Rattle.runs.proofs.Deeds.{Quiet.refusal, Quiet.stopped_list, Quiet.modal, Quiet.oldest_given, Quiet.youngest_given, Quiet.span_given, Quiet.taken, Quiet.handed}
-use Rattle.runs.proofs.Deeds.{Did.entry, Did.started_list, Did.released_to, Did.listened, Did.gives, Did.quiet}
+use Rattle.runs.proofs.Deeds.{Quiet.refusal}
+use Rattle.runs.proofs.Deeds.{Did.gives, Did.quiet}
 use Rattle.runs.proofs.Stores.{Store, store_of, framed}
 use Rattle.runs.proofs.Tied.{Inv}
 

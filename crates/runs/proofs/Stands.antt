@@ -1,17 +1,16 @@
 -- The law of the runs.
-use Rattle.std.proofs.Common.{◌≡◌, ℕ, zero, suc, ◌+◌, ◌-◌, ◌*◌, ◌/◌, ◌%◌, ◌<◌, ◌≤◌, min, max, Bool, true, false, cond, not, ◌&&◌, eqb, ltb, leb, ◌≢◌, ◌⊎◌, ◌↔◌, List, [], ◌∷◌, ◌++◌, map, length, get_or, take, Some, None, Ok, Err, Option, Result, sym, refl, ap, ◌∙◌, subst, ap₂, subst₂, inl, inr, arith}
+use Rattle.std.proofs.Common.{◌≡◌, ℕ, zero, suc, ◌-◌, ◌*◌, ◌<◌, ◌≤◌, min, max, Bool, false, ltb, ◌↔◌, List, [], ◌∷◌, ◌++◌, length, get_or, take, sym, refl, ap, ◌∙◌, subst, subst₂, inl, inr, arith}
 use Rattle.std.proofs.lemmas.List.{get_or-map}
 use Rattle.std.proofs.lemmas.Bool.{lt-ltb, ltb-true, cases_lt}
 use Rattle.trays.specs.declared.slots.Slot.{Slot}
-use Rattle.records.specs.declared.fault.RecordFault.{RecordFault}
 use Rattle.records.specs.declared.frames.Frame.{Frame}
 use Rattle.book.specs.declared.answers.Reading.{Reading}
 use Rattle.book.specs.declared.listeners.Listener.{Listener}
-use Rattle.book.specs.State.{Mark, listening}
+use Rattle.book.specs.State.{Mark}
 use Rattle.runs.specs.declared.asked.Call.{Call}
-use Rattle.runs.specs.declared.asked.Call.TheVariants.{Enter, Start, Stop, SetMode, Release, Listen, Since, Oldest, Youngest, Span, Take, HandBack}
-use Rattle.runs.specs.Answers.{Answer, Answer.refused, Answer.done, Answer.entered, Answer.gave, Answer.key}
-use Rattle.runs.specs.Histories.{Event, Event.◌⟶◌, History, ◌∈◌, ◌∈◌.here, ◌∈◌.there}
+use Rattle.runs.specs.declared.asked.Call.TheVariants.{Enter, Since}
+use Rattle.runs.specs.Answers.{Answer, Answer.entered, Answer.gave}
+use Rattle.runs.specs.Histories.{Event.◌⟶◌, History, ◌∈◌}
 use Rattle.runs.specs.Kinds.{Kind, Same, Keeps}
 use Rattle.book.specs.State.{new_list}
 use Rattle.runs.specs.Histories.{Number, Fitting, happened}
@@ -19,7 +18,7 @@ use Rattle.runs.specs.Histories.{Fitting.refusal as fit_refusal, Fitting.entry a
 use Rattle.runs.specs.Law.{entries, Gone, Held, Listening, Law}
 use Rattle.runs.specs.Steps.{World, world, step, step_answer, answers, after}
 use Rattle.runs.specs.Throughout.{would, Throughout}
-use Rattle.runs.proofs.Deeds.{Quiet, Did, did, SinceGave, held_frames}
+use Rattle.runs.proofs.Deeds.{Quiet, Did, did}
 use Rattle.runs.proofs.Deeds.{Quiet.refusal, Quiet.stopped_list, Quiet.modal, Quiet.oldest_given, Quiet.youngest_given, Quiet.span_given, Quiet.taken, Quiet.handed}
 use Rattle.runs.proofs.Deeds.{Did.entry, Did.started_list, Did.released_to, Did.listened, Did.gives, Did.quiet}
 use Rattle.runs.proofs.Stores.{Store, store_of, calls_at}

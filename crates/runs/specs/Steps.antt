@@ -1,21 +1,19 @@
 -- What each call of a run does, by the promises of the book's own calls.
-use Rattle.std.specs.Prelude.{◌≡◌, ℕ, Bool, List, [], ◌∷◌, length, Some, None, Option, Result}
+use Rattle.std.specs.Prelude.{◌≡◌, ℕ, List, [], ◌∷◌, length, Some, None, Option, Result}
 use Rattle.trays.specs.declared.slots.Slot.{Slot}
 use Rattle.records.specs.declared.fault.RecordFault.{RecordFault}
 use Rattle.records.specs.declared.frames.Frame.{Frame}
-use Rattle.book.specs.declared.answers.Entered.{Entered}
 use Rattle.book.specs.declared.answers.Reading.{Reading}
 use Rattle.book.specs.declared.key.KeyPlace.{KeyPlace}
 use Rattle.book.specs.declared.key.KeyPlace.TheVariants.{In, Out}
 use Rattle.book.specs.declared.key.ServiceKey.{ServiceKey}
 use Rattle.book.specs.declared.state.ListState.{ListState}
-use Rattle.book.specs.Told.{Checks, Told, accepted, refused, decided, left}
-use Rattle.book.specs.State.{Mark, entered, started, stopped, moded, released, heard, with_key}
-use Rattle.book.specs.Calls.{enter_checks, enter_answer, enter_row, start_checks, stop_checks, mode_checks, release_checks, take_checks, key_checks, key_of}
+use Rattle.book.specs.Told.{Checks, decided, left}
+use Rattle.book.specs.State.{entered, started, stopped, moded, released, heard, with_key}
+use Rattle.book.specs.Calls.{enter_checks, enter_answer, enter_row, start_checks, stop_checks, mode_checks, release_checks, take_checks, key_checks}
 use Rattle.book.specs.Reads.{listen_checks, since_checks, since_answer, since_gives, end_checks, oldest_answer, oldest_gives, youngest_answer, youngest_gives, span_checks, span_answer, span_gives}
 use Rattle.runs.specs.Answers.{Answer, as_done, as_entered, as_given, as_key}
 use Rattle.runs.specs.declared.asked.Call.{Call}
-use Rattle.runs.specs.declared.asked.Call.TheVariants as Call
 use Rattle.runs.specs.declared.asked.Read.{Read}
 use Rattle.runs.specs.declared.asked.Read.TheVariants.{Since, Oldest, Youngest, Span}
 use Rattle.runs.specs.declared.asked.Keyed.{Keyed}

@@ -1,4 +1,4 @@
-use Rattle.std.proofs.Common.{◌≡◌, ◌+◌, ◌<◌, ◌≤◌, List, [], ◌∷◌, ◌++◌, map, length, drop, vec_items, sym, refl, ap, ◌∙◌, subst, append-nil, arith, drop_of_length-le}
+use Rattle.std.proofs.Common.{◌≡◌, ◌+◌, [], ◌++◌, map, drop, vec_items, sym, ap, ◌∙◌, subst, append-nil, arith, drop_of_length-le}
 use Rattle.book.specs.State.{new_list}
 use Rattle.runs.specs.Answers.{answer_of}
 use Rattle.runs.specs.Kinds.{Kind}
@@ -14,23 +14,23 @@ loop-call-preserved g c =
     let reads = g.R.Record.reads in
     let writes = g.R.Record.writes in
     let b = c.loop-call.book in
-    let b' = c.carry-out-reply.new.book in
+    let b' = c.carry_out-reply.new.book in
     let w = world b.number b.state (g.T.Tray.row b.tray) in
     let w' = world b'.number b'.state (g.T.Tray.row b'.tray) in
     let call = c.call-item.result in
-    let does = c.carry-out-reply.ensures in
+    let does = c.carry_out-reply.ensures in
     let inv = c.loop-call.invariant in
     let next = next_call c.args.calls.now c.loop-call.call-index call c.loop-call-test.true c.call-item.is in
     let stands : w' ≡ step writes call w = let s = does.state in let r = does.slots in let n = does.number in cc in
     let told : answer_of c.in-Ok.reply ≡ step_answer reads call w =
     made_ok (λ reply. answer_of reply ≡ step_answer reads call w) _ _ c.in-Ok.is does.answer in
-    let replied = ap (map answer_of) c.push-reserved.ensures.items ∙ map_append answer_of (vec_items c.loop-call.replies) c.in-Ok.reply in (
+    let replied = ap (map answer_of) c.push_reserved.ensures.items ∙ map_append answer_of (vec_items c.loop-call.replies) c.in-Ok.reply in (
       answers_more reads writes _ _ w w' call (answer_of c.in-Ok.reply) _ _ next stands told inv.0
           ∙ ap (λ given. given ++ answers reads writes w' (drop (c.loop-call.call-index + 1) c.args.calls.now)) (sym replied),
       after_more reads writes _ w w' call _ _ next stands inv.1,
       does.held,
-      (let l = c.push-reserved.ensures.len in let i = inv.3 in omega arith),
-      (let k = c.push-reserved.ensures.capacity in let i = inv.4 in omega arith),
+      (let l = c.push_reserved.ensures.len in let i = inv.3 in omega arith),
+      (let k = c.push_reserved.ensures.capacity in let i = inv.4 in omega arith),
       does.memory ∙ inv.5,
     )
 

@@ -1,4 +1,4 @@
-use Rattle.std.proofs.Common.{◌≡◌, ◌+◌, ◌-◌, ◌≤◌, ◌++◌, map, length, drop, vec_items, vec_len, vec_capacity}
+use Rattle.std.proofs.Common.{◌≡◌, ◌≤◌, ◌++◌, map, length, drop, vec_items, vec_len, vec_capacity}
 use Rattle.runs.specs.Answers.{answer_of}
 use Rattle.runs.specs.Steps.{HeldKey, world, answers, after}
 use Rattle.runs.proofs.running.run.Given as goal
