@@ -1,7 +1,6 @@
 -- The rows of reads.
 use Rattle.std.specs.Prelude.{◌≤◌}
 use Rattle.runs.specs.declared.asked.Call.{Call}
-use Rattle.runs.specs.declared.asked.Call.TheVariants as Call
 
 -- a read brings a row of at most 144 frames
 abbrev pub RoomFits : {R : Type 0} → Call R → Type 0

@@ -4,8 +4,8 @@ use Rattle.std.proofs.lemmas.Str.Pattern.{strip_prefix_char}
 use Rattle.wording.proofs.Tenths.{below_none, above_none, same_number}
 use Rattle.wording.proofs.numbers.tenths.Goals as goal
 
-pub returns-in-default : goal.returns-in-default
-returns-in-default c =
+pub returns-in_default : goal.returns-in_default
+returns-in_default c =
     let fits : c.in-Some-plain.number < 2 ^ 32 = search rules in
     record {
       exact =
@@ -17,8 +17,8 @@ returns-in-default c =
       range = tt;
     }
 
-pub returns-in-default·2 : goal.returns-in-default·2
-returns-in-default·2 c =
+pub returns-in_default-2 : goal.returns-in_default-2
+returns-in_default-2 c =
     let fits : c.in-Some-plain.number < 2 ^ 32 = search rules in
     record {
       exact =
@@ -30,18 +30,18 @@ returns-in-default·2 c =
       range = tt;
     }
 
-pub returns-in-default·3 : goal.returns-in-default·3
-returns-in-default·3 c =
+pub returns-in_default-3 : goal.returns-in_default-3
+returns-in_default-3 c =
     record {
       exact =
           below_none c.args.word.now c.in-Some.digits.now
           (strip_prefix_char 45 c.args.word.now (Some c.in-Some.digits) c.in-Some.ensures.cases (omega arith))
-          (λ n some small e. c.in-default.ensures n (omega (arith, small)) e);
+          (λ n some small e. c.in_default.ensures n (omega (arith, small)) e);
       range = tt;
     }
 
-pub returns-in-default-plain : goal.returns-in-default-plain
-returns-in-default-plain c =
+pub returns-in_default-plain : goal.returns-in_default-plain
+returns-in_default-plain c =
     let fits : c.in-Some-plain-2.number < 2 ^ 32 = search rules in
     record {
       exact =
@@ -52,11 +52,11 @@ returns-in-default-plain c =
       range = tt;
     }
 
-pub returns-in-default-plain·2 : goal.returns-in-default-plain·2
-returns-in-default-plain·2 c =
+pub returns-in_default-plain-2 : goal.returns-in_default-plain-2
+returns-in_default-plain-2 c =
     record {
       exact =
           above_none c.args.word.now (strip_prefix_char 45 c.args.word.now None c.in-None.ensures.cases (omega arith))
-          (λ n small e. c.in-default-plain.ensures n (omega (arith, small)) e);
+          (λ n small e. c.in_default-plain.ensures n (omega (arith, small)) e);
       range = tt;
     }
