@@ -1,4 +1,6 @@
 // Tests of the crate `records`, in a crate of their own since a crate with tests is proved twice.
+#![tactic(auto)]
+
 #[cfg(test)]
 mod tests {
     use records::{Channel, Degree, Frame, Measured, Message, Record, RecordFault, Temperature};
