@@ -1,5 +1,5 @@
 -- Each worthless book breaks the law in a few calls.
-use Rattle.std.proofs.Common.{◌≡◌, ℕ, zero, suc, ◌+◌, ◌-◌, ◌≤◌, Bool, ◌⊎◌, List, [], ◌∷◌, length, sym, refl, ap, ◌∙◌, subst, inl, inr, arith}
+use Rattle.std.proofs.Common.{◌≡◌, ℕ, List, [], ◌∷◌, sym, refl, ap, ◌∙◌, inl, inr, arith}
 use Rattle.trays.specs.Rows.{look_answer}
 use Rattle.records.specs.declared.frames.Frame.{Frame}
 use Rattle.book.specs.declared.answers.Reading.{Reading}
@@ -9,8 +9,8 @@ use Rattle.runs.specs.declared.asked.Call.{Call}
 use Rattle.runs.specs.declared.asked.Call.TheVariants.{Enter, Start, Release, Since, Take}
 use Rattle.runs.specs.Answers.{Answer, Answer.done, Answer.gave}
 use Rattle.runs.specs.Histories.{Event, Event.◌⟶◌, History, ◌∈◌, ◌∈◌.here, ◌∈◌.there}
-use Rattle.runs.specs.Law.{entries, Gone, Held, Law, Reader.begins, Reader.waits, Reader.reads_on}
-use Rattle.cases.specs.Worthless.{trace, with_since, tells_all_missed, never_looks, pretends, makes_up_missed, uses_no_tray, ignores_release, ShutOut}
+use Rattle.runs.specs.Law.{entries, Gone, Held, Reader.begins, Reader.waits, Reader.reads_on}
+use Rattle.cases.specs.Worthless.{trace, tells_all_missed, never_looks, uses_no_tray, ShutOut}
 
 none_in : {A : Type 0} {x : A} → x ∈ [] → ⊥
 none_in m = elim m [ ]

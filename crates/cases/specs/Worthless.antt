@@ -1,9 +1,8 @@
 -- Books that are worth nothing, and that the law shuts out.
 use Rattle.std.specs.Prelude.{◌≡◌, ℕ, suc, ◌-◌, List, [], ◌∷◌, reverse, length, replicate}
 use Rattle.records.specs.declared.frames.Frame.{Frame}
-use Rattle.book.specs.declared.answers.Reading.{Reading}
 use Rattle.book.specs.declared.answers.Status.{Status}
-use Rattle.book.specs.declared.answers.Status.TheVariants.{Follow, NoFollow, NoFrame}
+use Rattle.book.specs.declared.answers.Status.TheVariants.{NoFollow, NoFrame}
 use Rattle.book.specs.State.{Mark}
 use Rattle.runs.specs.declared.asked.Call.{Call}
 use Rattle.runs.specs.declared.asked.Call.TheVariants.{Enter, Start, Stop, SetMode, Release, Listen, Since, Oldest, Youngest, Span, Take, HandBack}
