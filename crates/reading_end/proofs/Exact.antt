@@ -1,7 +1,7 @@
 -- Bytes are taken as a reply exactly where they are one of the three layouts.
 use Rattle.std.proofs.Common.{◌≡◌, ℕ, zero, suc, ◌+◌, ◌-◌, ◌*◌, ◌/◌, ◌%◌, ◌<◌, ◌≤◌, Bool, true, false, cond, not, ◌&&◌, ◌||◌, eqb, ltb, leb, ◌⊎◌, List, [], ◌∷◌, ◌++◌, length, Ok, Err, Result, sym, refl, ap, ◌∙◌, subst, inl, inr, append_assoc, append-nil, mod-eq_of_lt, arith}
 use native.Mathlib.Nat.{div-div-eq-div-mul, mod-add-div}
-use Rattle.std.specs.List.{flat_map, AllByRecursion as All}
+use Rattle.std.specs.List.{flat_map, AllByRecursion}
 use Rattle.std.proofs.ByRecursion.{All-take}
 use Rattle.std.proofs.lemmas.List.{length-append}
 use Rattle.std.proofs.lemmas.Bool.{and_parts, eqb-true, leb-true, ltb-false, or_cases, or_parts}
@@ -257,7 +257,7 @@ module _ {R : Type 0} (kind : ℕ) (reads : List ℕ → Result R RecordFault) w
     frames : List Unread
     rest : List ℕ
     cut : bs ≡ flat_map (frame_bytes kind unread) frames ++ rest
-    fits : All (FrameFits unread) frames
+    fits : AllByRecursion (FrameFits unread) frames
     again : AllAgain reads unread frames fs
     many : length frames ≡ n
 

@@ -1,6 +1,6 @@
 -- Whole replies that are written, read again.
 use Rattle.std.proofs.Common.{◌≡◌, ℕ, suc, ◌+◌, ◌-◌, ◌*◌, ◌<◌, ◌≤◌, min, Bool, true, false, eqb, ltb, List, [], ◌∷◌, ◌++◌, map, length, get_or, drop, Ok, Err, Result, sym, refl, ap, ◌∙◌, subst, inl, inr, append_assoc, append-nil, arith}
-use Rattle.std.specs.List.{flat_map, AllZip, AllByRecursion as All}
+use Rattle.std.specs.List.{flat_map, AllZip, AllByRecursion}
 use Rattle.std.proofs.lemmas.List.{take_at, length-append}
 use Rattle.std.proofs.lemmas.Bool.{cond-true, cond-false, eq-eqb, ne_eqb, le-leb, le-ltb, or_from, or_right, and_left}
 use Rattle.std.proofs.lemmas.Bool.Decides.{nat_tests}
@@ -100,7 +100,7 @@ pub entered_back : {R : Type 0} (kind : ℕ) (reads : List ℕ → Result R Reco
 entered_back kind reads e room fit = closed_told kind reads (entered_fields e) room (omega arith) ∙ entered_told kind reads e room fit
 
 module _ {R : Type 0} (kind : ℕ) (writes : R → List ℕ) where
-  frames_back : (fs : List (Frame R)) (rest : List ℕ) (at : ℕ) → All (FrameFits writes) fs
+  frames_back : (fs : List (Frame R)) (rest : List ℕ) (at : ℕ) → AllByRecursion (FrameFits writes) fs
       → frames_at (length fs) (flat_map (frame_bytes kind writes) fs ++ rest, at) ≡ Ok (map (raw kind writes) fs, (rest, at + 28 * length fs))
   frames_back [] rest at h = ap (λ k. Ok ([], (rest, k))) (omega arith)
   frames_back (f ∷ fs) rest at h =
@@ -123,7 +123,7 @@ module _ {R S : Type 0} (kind : ℕ) (reads : List ℕ → Result S RecordFault)
       ∙ ap (λ o. frame_step o s) (cond-true _ (framed (raw kind writes f) (reads (writes f.body))) _ (eq-eqb kind kind refl) ∙ ap (framed (raw kind writes f)) again.body)
       ∙ (λ i. Ok (record { time = sym again.time i; position = sym again.position i; body = f'.body }, s))
 
-  records_back : (fs : List (Frame R)) (fs' : List (Frame S)) (rest : List ℕ) (at : ℕ) → All (FrameFits writes) fs → AllAgain reads writes fs fs'
+  records_back : (fs : List (Frame R)) (fs' : List (Frame S)) (rest : List ℕ) (at : ℕ) → AllByRecursion (FrameFits writes) fs → AllAgain reads writes fs fs'
       → records_at kind reads (length fs) (flat_map (frame_bytes kind writes) fs ++ rest, at) ≡ Ok fs'
   records_back [] [] rest at h again = refl
   records_back [] (f' ∷ fs') rest at h again = absurd again
@@ -143,7 +143,7 @@ status_small Follow = omega arith
 status_small NoFollow = omega arith
 status_small NoFrame = omega arith
 
-read_form : {R : Type 0} (kind : ℕ) (writes : R → List ℕ) (g : Reading) (fs : List (Frame R)) → ReadingFits g → All (FrameFits writes) fs → g.count ≡ length fs → count_fits g.status g.count ≡ true
+read_form : {R : Type 0} (kind : ℕ) (writes : R → List ℕ) (g : Reading) (fs : List (Frame R)) → ReadingFits g → AllByRecursion (FrameFits writes) fs → g.count ≡ length fs → count_fits g.status g.count ≡ true
     → reply_at (read_fields kind writes g fs, 0) ≡ Ok (Read g)
 read_form kind writes g fs gf ff count is =
     let all = flat_map (frame_bytes kind writes) fs in
@@ -168,7 +168,7 @@ after_head g rest =
     ap (λ k. (drop k (head_bytes g ++ rest), 0 + k)) n
 
 pub read_told : {R S : Type 0} (kind : ℕ) (reads : List ℕ → Result S RecordFault) (writes : R → List ℕ) (g : Reading) (fs : List (Frame R)) (fs' : List (Frame S)) (room : ℕ)
-    → ReadingFits g → All (FrameFits writes) fs → g.count ≡ length fs → count_fits g.status g.count ≡ true → length fs ≤ room → AllAgain reads writes fs fs'
+    → ReadingFits g → AllByRecursion (FrameFits writes) fs → g.count ≡ length fs → count_fits g.status g.count ≡ true → length fs ≤ room → AllAgain reads writes fs fs'
     → told_at kind reads room (read_fields kind writes g fs, 0) ≡ Ok (Read g, fs')
 read_told kind reads writes g fs fs' room gf ff count is fit again =
     let all = flat_map (frame_bytes kind writes) fs in
@@ -187,7 +187,7 @@ count_small NoFollow n is = grind (arith, nat_tests)
 count_small NoFrame n is = grind (arith, nat_tests)
 
 pub read_back : {R S : Type 0} (kind : ℕ) (reads : List ℕ → Result S RecordFault) (writes : R → List ℕ) (g : Reading) (fs : List (Frame R)) (fs' : List (Frame S)) (room : ℕ)
-    → ReadingFits g → All (FrameFits writes) fs → g.count ≡ length fs → count_fits g.status g.count ≡ true → length fs ≤ room → AllAgain reads writes fs fs'
+    → ReadingFits g → AllByRecursion (FrameFits writes) fs → g.count ≡ length fs → count_fits g.status g.count ≡ true → length fs ≤ room → AllAgain reads writes fs fs'
     → reply_of kind reads (read_reply kind writes g fs) room ≡ Ok (Read g, fs')
 read_back kind reads writes g fs fs' room gf ff count is fit again =
     let small = count_small g.status g.count is in

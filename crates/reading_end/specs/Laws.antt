@@ -1,6 +1,6 @@
 -- Both ends of a telegram: what is written is what is read.
 use Rattle.std.specs.Prelude.{◌≡◌, ℕ, ◌<◌, ◌≤◌, true, ◌⊎◌, ◌↔◌, List, [], ◌∷◌, length, Ok, Result}
-use Rattle.std.specs.List.{AllZip, AllByRecursion as All}
+use Rattle.std.specs.List.{AllZip, AllByRecursion}
 use Rattle.records.specs.declared.fault.RecordFault.{RecordFault}
 use Rattle.records.specs.declared.frames.Frame.{Frame}
 use Rattle.book.specs.declared.answers.Entered.{Entered as Entry}
@@ -45,11 +45,11 @@ pub record RepliesBack {R V : Type 0} (kind : ℕ) (reads : List ℕ → Result 
   pub entered : (e : Entry) (room : ℕ) → EnteredFits e → reply_of kind reads (entered_reply e) room ≡ Ok (Entered e, [])
   -- the read's answer, with every frame at its time and position and with a record that means the same
   pub read : (g : Reading) (fs : List (Frame R)) (room : ℕ)
-      → ReadingFits g → All (FrameFits writes) fs → g.count ≡ length fs → count_fits g.status g.count ≡ true → length fs ≤ room
+      → ReadingFits g → AllByRecursion (FrameFits writes) fs → g.count ≡ length fs → count_fits g.status g.count ≡ true → length fs ≤ room
       → (fs' : List (Frame R)) × (reply_of kind reads (read_reply kind writes g fs) room ≡ Ok (Read g, fs')) × AllZip (SameFrame means) fs fs'
 
 abbrev pub Bytes : List ℕ → Type 0
-Bytes bs = All (λ b. b < 256) bs
+Bytes bs = AllByRecursion (λ b. b < 256) bs
 
 -- a frame whose record is still four words
 abbrev pub Unread : Type 0
@@ -63,7 +63,7 @@ unread words = words
 pub record ReadLaid {R : Type 0} (kind : ℕ) (reads : List ℕ → Result R RecordFault) (fields : List ℕ) (room : ℕ) (g : Reading) (fs : List (Frame R)) (us : List Unread) : Type 0 where
   pub is : fields ≡ read_fields kind unread g us
   pub head : ReadingFits g
-  pub frames : All (FrameFits unread) us
+  pub frames : AllByRecursion (FrameFits unread) us
   pub again : AllAgain reads unread us fs
   pub count : g.count ≡ length fs
   pub lawful : count_fits g.status g.count ≡ true

@@ -4,7 +4,7 @@
 #![tactic(auto)]
 
 ghost use Rattle.std.specs.Prelude.{◌≡◌, ℕ, ◌+◌, ◌*◌, ◌≤◌, List, length, take};
-ghost use Rattle.std.specs.List.{flat_map, AllByRecursion as All};
+ghost use Rattle.std.specs.List.{flat_map, AllByRecursion};
 ghost use Rattle.book.specs.Told.{status_number};
 ghost use Rattle.records.specs.Laws.{FourWords};
 ghost use Rattle.seals.specs.Fletcher.{seal_bytes};
@@ -100,7 +100,7 @@ fn put_frames<R: Record>(out: &mut [u8], start: usize, frames: &[Frame<R>]) -> u
     requires { start + 28 * length frames.now ≤ length out.old }
     ensures next { result ≡ start + 28 * length frames.now }
     ensures wrote { Wrote out.old out.new start result (flat_map (frame_bytes R.kind R.writes) frames.now) }
-    ensures fits { All (FrameFits R.writes) frames.now }
+    ensures fits { AllByRecursion (FrameFits R.writes) frames.now }
 {
     let mut at = start;
     for frame in frames {
@@ -169,7 +169,7 @@ pub fn write_read<R: Record>(
 ) -> Option<usize>
     ensures length { result ≡ written_length (54 + 28 * length frames.now) out.old }
     ensures bytes { out.new ≡ written_over (54 + 28 * length frames.now) (read_reply R.kind R.writes reading.now frames.now) out.old }
-    ensures fits { IfWritten result (ReadingFits reading.now × All (FrameFits R.writes) frames.now) }
+    ensures fits { IfWritten result (ReadingFits reading.now × AllByRecursion (FrameFits R.writes) frames.now) }
 {
     if out.len() < 54 || (out.len() - 54) / 28 < frames.len() {
         return None;

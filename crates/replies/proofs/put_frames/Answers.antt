@@ -1,5 +1,5 @@
 use Rattle.std.proofs.Common.{◌++◌, take, ap, ◌∙◌, subst, arith}
-use Rattle.std.specs.List.{flat_map, AllByRecursion as All}
+use Rattle.std.specs.List.{flat_map, AllByRecursion}
 use Rattle.std.proofs.ByRecursion.{All-more}
 use Rattle.std.proofs.lemmas.List.{take_all}
 use Rattle.replies.specs.Fits.{FrameFits}
@@ -25,5 +25,5 @@ returns g c =
     record {
       next = omega arith;
       wrote = wrote_as (ap (flat_map (frame_bytes g.R.Record.kind g.R.Record.writes)) whole) c.loop-frame.invariant.1;
-      fits = subst (All (FrameFits g.R.Record.writes)) whole c.loop-frame.invariant.2;
+      fits = subst (AllByRecursion (FrameFits g.R.Record.writes)) whole c.loop-frame.invariant.2;
     }
