@@ -1,12 +1,12 @@
-mod Given
-mod Turns
-mod Stores
-mod Counts
-mod Deeds
-mod Tied
-mod Sinces
-mod Leaves
-mod Readers
-mod Parties
-mod Stands
-mod Orders
+pub mod Given
+pub mod Turns
+pub mod Stores
+pub mod Counts
+pub mod Deeds
+pub mod Tied
+pub mod Sinces
+pub mod Leaves
+pub mod Readers
+pub mod Parties
+pub mod Stands
+pub mod Orders

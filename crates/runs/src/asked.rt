@@ -52,7 +52,7 @@ pub enum Call<R> {
 
 // Those of them that show a key and leave it with its holder.
 #[derive(Clone, Copy)]
-pub(crate) enum Keyed {
+pub enum Keyed {
     Start,
     Stop,
     SetMode(Mode),
@@ -61,7 +61,7 @@ pub(crate) enum Keyed {
 
 // The reads, without their rows.
 #[derive(Clone, Copy)]
-pub(crate) enum Read {
+pub enum Read {
     Since { mark: (u32, u32), limit: u16 },
     Oldest,
     Youngest,

@@ -11,7 +11,8 @@ use book::{Book, BookFault, KeyPlace, ServiceKey, StillHeld};
 use records::Record;
 use trays::{OpenTray, Slot, Tray};
 
-fn show<R: Record, T: Tray<Slot = Slot>>(
+// A call that shows this key.
+pub fn show<R: Record, T: Tray<Slot = Slot>>(
     book: &mut Book<R, T>,
     key: &ServiceKey,
     call: Keyed,

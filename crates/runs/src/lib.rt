@@ -10,6 +10,8 @@ mod reading;
 mod replies;
 mod running;
 
-pub use asked::Call;
+pub use asked::{Call, Keyed, Read};
+pub use keys::show;
+pub use reading::ask;
 pub use replies::Reply;
-pub use running::{Outcome, run};
+pub use running::{Outcome, carry_out, run};

@@ -36,7 +36,8 @@ fn reply<R: Record>(answer: Result<Reading, BookFault>, mut row: Vec<Frame<R>>) 
     }
 }
 
-fn ask<R: Record, T: Tray<Slot = Slot>>(
+// A read into the caller's row.
+pub fn ask<R: Record, T: Tray<Slot = Slot>>(
     book: &Book<R, T>,
     read: Read,
     into: &mut [Frame<R>],

@@ -67,7 +67,7 @@ fn shown<R: Record, T: Tray<Slot = Slot>>(
 }
 
 // One call, on the book as it stands.
-fn carry_out<R: Record, T: Tray<Slot = Slot>>(
+pub fn carry_out<R: Record, T: Tray<Slot = Slot>>(
     heap: Global,
     book: &mut Book<R, T>,
     held: Option<ServiceKey>,
