@@ -1,4 +1,4 @@
--- The trial book: what the rules answer in nine cases.
+-- The trial book: what the rules answer in nine cases; and seals.
 use Rattle.std.specs.Prelude.{◌≡◌, ℕ, Bool, true, false, List, [], ◌∷◌, ◌++◌, length, replicate, Ok}
 use Rattle.trays.specs.declared.slots.Slot.{Slot}
 use Rattle.records.specs.declared.frames.Frame.{Frame}
@@ -11,6 +11,7 @@ use Rattle.runs.specs.declared.asked.Call.TheVariants.{Enter, Start, Stop, SetMo
 use Rattle.runs.specs.Answers.{Answer, Answer.refused, Answer.entered, Answer.gave}
 use Rattle.runs.specs.Kinds.{Kind}
 use Rattle.runs.specs.Throughout.{would}
+use Rattle.seals.specs.Fletcher.{is_sealed, seal_bytes}
 
 -- a kind whose records are their words
 abbrev pub Plain : Kind (List ℕ) (List ℕ)
@@ -68,3 +69,9 @@ pub record Trial : Type 0 where
   pub keeping :
       (then_answers 2 (Take ∷ SetMode 1 Keep ∷ Start 1 ∷ Enter 1 [] ∷ Enter 1 [] ∷ []) (Enter 1 []) ≡ refused 23)
       × (then_answers 2 (Take ∷ SetMode 1 Keep ∷ Start 1 ∷ Enter 1 [] ∷ Enter 1 [] ∷ Release 1 1 ∷ []) (Enter 1 []) ≡ entered 3 nobody)
+  -- the seals of no byte, of 01 and of 01 02; and 00 00, which is sealed too
+  pub seals :
+      (seal_bytes [] ≡ 0xff ∷ 0x00 ∷ [])
+      × (seal_bytes (0x01 ∷ []) ≡ 0xfd ∷ 0x01 ∷ [])
+      × (seal_bytes (0x01 ∷ 0x02 ∷ []) ≡ 0xf8 ∷ 0x04 ∷ [])
+      × (is_sealed (0x00 ∷ 0x00 ∷ []) ≡ true)

@@ -5,7 +5,7 @@
 ghost use Rattle.cases.specs.Trial.{Trial};
 ghost use Rattle.cases.specs.Worthless.{ShutOut};
 
-// What a book of three, four or two slots answers in nine worked cases, jointly.
+// What a book of three, four or two slots answers in nine worked cases, and worked seals, jointly.
 pub fn worked_cases()
     ensures { Trial }
 {}

@@ -15,4 +15,5 @@ returns c = record {
   started_again = refl;
   calling = (refl, refl);
   keeping = (refl, refl);
+  seals = (refl, refl, refl, refl);
 }
