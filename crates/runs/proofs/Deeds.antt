@@ -93,7 +93,7 @@ module _ {R V : Type 0} (K : Kind R V) (w : World) where
   whom_is : (t : ℕ) (ws : List ℕ) → map (calls_at (put (store_of w) t ws)) w.state.listeners ≡ called (entered_list w.state t (length w.row)) (length w.row)
   whom_is t ws = map_same _ _ (λ l. simp (add-one, length-set)) w.state.listeners
 
-  enters : (t : ℕ) (r : R) (v : Option ℕ) → verdict (enter_checks w.state t (length w.row)) ≡ v
+  pub enters : (t : ℕ) (r : R) (v : Option ℕ) → verdict (enter_checks w.state t (length w.row)) ≡ v
       → DidTo (Enter t r) (as_entered (tell v (enter_answer w.state t (length w.row))))
       (keep v (entered_list w.state t (length w.row)) w.state) (keep v (enter_row w.state w.row t (K.writes r)) w.row)
   enters t r (Some n) e = quiet refusal
@@ -110,14 +110,14 @@ module _ {R V : Type 0} (K : Kind R V) (w : World) where
   shows c keyed k (Some n) does e = quiet refusal
   shows c keyed k None does e = does e
 
-  listens : (i : ℕ) (m : Mark) (f : ℕ) (v : Option ℕ) → verdict (listen_checks w.state w.row i m) ≡ v
+  pub listens : (i : ℕ) (m : Mark) (f : ℕ) (v : Option ℕ) → verdict (listen_checks w.state w.row i m) ≡ v
       → DidTo (Listen i m f) (as_done (tell v tt)) (keep v (heard i m f w.state) w.state) w.row
   listens i m f (Some n) e = quiet refusal
   listens i m f None e =
       let free = (clear (listen_checks w.state w.row i m) e).0 in
       listened (grind (arith, nat_tests)) (grind (arith, nat_tests))
 
-  sinces : (m : Mark) (l n : ℕ) (v : Option ℕ) → verdict (since_checks w.state w.row m l n) ≡ v
+  pub sinces : (m : Mark) (l n : ℕ) (v : Option ℕ) → verdict (since_checks w.state w.row m l n) ≡ v
       → DidTo (Since m l n) (as_given (tell v (since_answer K.reads w.state w.row m l n)) (since_gives K.reads w.state w.row m l n)) w.state w.row
   sinces m l n (Some k) e = quiet refusal
   sinces m l n None e =

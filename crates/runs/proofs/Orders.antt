@@ -26,9 +26,9 @@ use Rattle.runs.proofs.Tied.{Inv}
 use Rattle.runs.proofs.Leaves.{Ran, Ran.fresh, Ran.and_then, tied}
 use Rattle.runs.proofs.Sinces.{frame_is}
 
-record Orderly (s : Store) : Type 0 where
-  latest : (p : ℕ) (a : Slot) → s.left < p → p ≤ s.last → slot_of s.row p ≡ Ok a → a.time ≤ s.last_time
-  rises : (p q : ℕ) (a b : Slot) → s.left < p → p ≤ q → q ≤ s.last → slot_of s.row p ≡ Ok a → slot_of s.row q ≡ Ok b → a.time ≤ b.time
+pub record Orderly (s : Store) : Type 0 where
+  pub latest : (p : ℕ) (a : Slot) → s.left < p → p ≤ s.last → slot_of s.row p ≡ Ok a → a.time ≤ s.last_time
+  pub rises : (p q : ℕ) (a b : Slot) → s.left < p → p ≤ q → q ≤ s.last → slot_of s.row p ≡ Ok a → slot_of s.row q ≡ Ok b → a.time ≤ b.time
 
 orderly_left : (s : Store) (p : ℕ) → s.left ≤ p → Orderly s → Orderly (left_to s p)
 orderly_left s p l o = record {
@@ -67,7 +67,7 @@ module _ {R V : Type 0} {K : Kind R V} {slots : ℕ} {h : History R} where
           ];
         }
 
-  orderly_did : {s s' : Store} {ls ls' : List Listener} {c : Call R} {a : Answer R} → Did K s ls c a s' ls'
+  pub orderly_did : {s s' : Store} {ls ls' : List Listener} {c : Call R} {a : Answer R} → Did K s ls c a s' ls'
       → ((t : ℕ) (r : R) (p : ℕ) (cs : List Bool) → c ≡ Enter t r → a ≡ entered p cs → s.last_time ≤ t) → Inv K slots s h → Orderly s → Orderly s'
   orderly_did (entry {t = t} {r = r} z) not_back i o = orderly_put _ t (K.writes r) z i o (not_back t r _ _ refl refl)
   orderly_did started_list not_back i o = orderly_left _ _ i.low o
@@ -78,12 +78,12 @@ module _ {R V : Type 0} {K : Kind R V} {slots : ℕ} {h : History R} where
 
 -- an accepted entry's time is not below the last
 module _ {R : Type 0} (w : World) where
-  by_verdict : (t p : ℕ) (cs : List Bool) (v : Option ℕ) → verdict (enter_checks w.state t (length w.row)) ≡ v
+  pub by_verdict : (t p : ℕ) (cs : List Bool) (v : Option ℕ) → verdict (enter_checks w.state t (length w.row)) ≡ v
       → ◌≡◌ {A = Answer R} (as_entered (tell v (enter_answer w.state t (length w.row)))) (entered p cs) → w.state.last_time ≤ t
   by_verdict t p cs (Some n) e f = absurd (let z : ◌≡◌ {A = ℕ} 0 1 = cc in omega arith)
   by_verdict t p cs None e f = ltb-false _ _ (clear (enter_checks w.state t (length w.row)) e).1.0
 
-  never_back : (reads : List ℕ → Result R RecordFault) (c : Call R) (t : ℕ) (r : R) (p : ℕ) (cs : List Bool) → c ≡ Enter t r → step_answer reads c w ≡ entered p cs → w.state.last_time ≤ t
+  pub never_back : (reads : List ℕ → Result R RecordFault) (c : Call R) (t : ℕ) (r : R) (p : ℕ) (cs : List Bool) → c ≡ Enter t r → step_answer reads c w ≡ entered p cs → w.state.last_time ≤ t
   never_back reads c t r p cs e f = by_verdict t p cs _ refl (ap (λ (x : Call R). step_answer reads x w) (sym e) ∙ f)
 
 module _ {R V : Type 0} (K : Kind R V) (row : List Slot) where
@@ -102,13 +102,13 @@ module _ {R V : Type 0} (K : Kind R V) (row : List Slot) where
       go (Err fault) e' = absurd (let z : ◌≡◌ {A = ℕ} 0 1 = cc in omega arith)
   time_in (Err fault) f e = absurd (let z : ◌≡◌ {A = ℕ} 0 1 = cc in omega arith)
 
-  pub sound : Keeps K → (number : ℕ) (calls : List (Call R)) → Sound K.reads (after K.writes (world number new_list row) calls)
-  sound keeps number calls =
-      let w₀ : World = world number new_list row in
-      let none : Orderly (store_of w₀) = record { latest = λ p a k k'. absurd (omega arith); rises = λ p q a b k l k'. absurd (omega arith) } in
-      let x = orderly_on w₀ [] fresh none calls in
-      let w : World = after K.writes w₀ calls in
-      let i = tied x.0.1 in
+  -- nothing is held in a new list
+  pub orderly_new : (number : ℕ) → Orderly (store_of (world number new_list row))
+  orderly_new number = record { latest = λ p a k k'. absurd (omega arith); rises = λ p q a b k l k'. absurd (omega arith) }
+
+  pub sound_of : Keeps K → (w : World) (h : History R) → Ran K row (store_of w) w.state.listeners h → Orderly (store_of w) → Sound K.reads w
+  sound_of keeps w h ran o =
+      let i = tied ran in
       record {
         order = i.low;
         few = omega (arith, i.room, i.size);
@@ -116,8 +116,13 @@ module _ {R V : Type 0} (K : Kind R V) (row : List Slot) where
         times = λ p q f g k l k' e e'.
             let a = time_in (slot_of w.row p) f e in
             let b = time_in (slot_of w.row q) g e' in
-            omega (arith, x.1.rises p q a.0 b.0 k l k' a.1 b.1, a.2, b.2);
+            omega (arith, o.rises p q a.0 b.0 k l k' a.1 b.1, a.2, b.2);
         latest = λ p f k k' e.
             let a = time_in (slot_of w.row p) f e in
-            omega (arith, x.1.latest p a.0 k k' a.1, a.2);
+            omega (arith, o.latest p a.0 k k' a.1, a.2);
       }
+
+  pub sound : Keeps K → (number : ℕ) (calls : List (Call R)) → Sound K.reads (after K.writes (world number new_list row) calls)
+  sound keeps number calls =
+      let x = orderly_on (world number new_list row) [] fresh (orderly_new number) calls in
+      sound_of keeps (after K.writes (world number new_list row) calls) x.0.0 x.0.1 x.1

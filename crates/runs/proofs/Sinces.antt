@@ -61,7 +61,7 @@ module _ {R : Type 0} where
   entered_later same e h [] x = tt
   entered_later same e h (f ∷ fs) x = ((x.0.0, (x.0.1.0, there x.0.1.1), x.0.2), entered_later same e h fs x.1)
 
-  frames_none : (at : ℕ → Result (Frame R) BookFault) (p : ℕ) → frames at zero p ≡ []
+  pub frames_none : (at : ℕ → Result (Frame R) BookFault) (p : ℕ) → frames at zero p ≡ []
   unfolding frames
   frames_none at p = refl
 
@@ -71,7 +71,7 @@ module _ {R : Type 0} where
 
   module _ {V : Type 0} {K : Kind R V} (keeps : Keeps K) {slots : ℕ} {s : Store} {h : History R} (i : Inv K slots s h) where
     -- the words of a record read back as one that means the same
-    reads_back : (r : R) (x : Result R RecordFault) → K.reads (K.writes r) ≡ x → ReadsBack K.means x r
+    pub reads_back : (r : R) (x : Result R RecordFault) → K.reads (K.writes r) ≡ x → ReadsBack K.means x r
         → (b : R) × (K.reads (K.writes r) ≡ Ok b) × (K.means r ≡ K.means b)
     reads_back r (Ok b) e k = (b, e, sym k)
     reads_back r (Err fault) e k = absurd k
