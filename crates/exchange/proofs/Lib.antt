@@ -1,0 +1,4 @@
+mod Keys
+mod Lengths
+mod Answered
+mod Returned
