@@ -1,0 +1,4 @@
+pub mod Onward
+pub mod Sends
+pub mod Led
+pub mod Settles
