@@ -1,6 +1,6 @@
 -- What the far end takes from a reply.
 use Rattle.std.specs.Prelude.{◌≡◌, ℕ, ◌≤◌, List, [], ◌∷◌, Ok, Result}
-use Rattle.std.specs.List.{AllZip, AllByRecursion as All}
+use Rattle.std.specs.List.{AllZip, AllByRecursion}
 use Rattle.records.specs.declared.fault.RecordFault.{RecordFault}
 use Rattle.records.specs.declared.frames.Frame.{Frame}
 use Rattle.book.specs.Told.{Told, Told.accepted, Told.refused}
@@ -16,7 +16,7 @@ use Rattle.exchange.specs.declared.orders.Said.TheVariants.{Done, Entered, Gave}
 abbrev pub SaidFits : {R : Type 0} → (R → List ℕ) → Said → List (Frame R) → Type 0
 SaidFits writes Done frames = Unit {0}
 SaidFits writes (Entered entered) frames = EnteredFits entered
-SaidFits writes (Gave reading) frames = ReadingFits reading × All (FrameFits writes) frames
+SaidFits writes (Gave reading) frames = ReadingFits reading × AllByRecursion (FrameFits writes) frames
 
 abbrev pub ToldFits : {R : Type 0} → (R → List ℕ) → Told Said → List (Frame R) → Type 0
 ToldFits writes (accepted said) frames = SaidFits writes said frames

@@ -4,7 +4,7 @@ ghost use Rattle.runs.specs.Steps.{world};
 ghost use Rattle.exchange.specs.Orders.{asked_of};
 ghost use Rattle.exchange.specs.Answering.{sent_told, sent_gives, sent_row, sent_state, sent_slots, Answered, said_told, frames_in, Within, said_gives, SaidWithin, said_reply, refusal_reply, reply_to, outcome_told, outcome_of, sent_reply, replied, Roomy};
 ghost use Rattle.exchange.specs.Back.{SaidFits, ToldFits, ReadBack};
-ghost use Rattle.std.specs.List.{AllByRecursion as All};
+ghost use Rattle.std.specs.List.{AllByRecursion};
 ghost use Rattle.replies.specs.Fits.{ReadingFits, FrameFits, IfWritten};
 ghost use Rattle.replies.specs.Layout.{read_reply, written_length, written_over};
 
@@ -38,7 +38,7 @@ fn answer<R: Record, T: Tray<Slot = Slot>>(
 fn write_gave<R: Record>(out: &mut [u8], reading: &Reading, row: &[Frame<R>]) -> Option<usize>
     requires { reading.now.count ≤ length row.now }
     ensures length { result ≡ written_length (54 + 28 * length (take reading.now.count row.now)) out.old }
-    ensures fits { IfWritten result (ReadingFits reading.now × All (FrameFits R.writes) (take reading.now.count row.now)) }
+    ensures fits { IfWritten result (ReadingFits reading.now × AllByRecursion (FrameFits R.writes) (take reading.now.count row.now)) }
     ensures bytes { let given = take reading.now.count row.now in out.new ≡ written_over (54 + 28 * length given) (read_reply R.kind R.writes reading.now given) out.old }
 {
     write_read(out, reading, &row[0..reading.count as usize])

@@ -1,5 +1,5 @@
 use Rattle.std.proofs.Common.{◌≡◌, ◌+◌, ◌-◌, ◌*◌, length, take, ap, ◌∙◌, subst, arith}
-use Rattle.std.specs.List.{AllByRecursion as All}
+use Rattle.std.specs.List.{AllByRecursion}
 use Rattle.replies.specs.Fits.{ReadingFits, FrameFits, IfWritten}
 use Rattle.replies.specs.Layout.{written_length, written_over, read_reply}
 use Rattle.exchange.proofs.answering.write_gave.Goals as goal
@@ -14,6 +14,6 @@ returns g c =
     let same = ap (λ n. take n c.args.row.now) whole in
     record {
       length = c.write_read.ensures.length ∙ ap (λ given. written_length (54 + 28 * length given) out) same;
-      fits = subst (λ given. IfWritten c.write_read.result (ReadingFits c.args.reading.now × All (FrameFits writes) given)) same c.write_read.ensures.fits;
+      fits = subst (λ given. IfWritten c.write_read.result (ReadingFits c.args.reading.now × AllByRecursion (FrameFits writes) given)) same c.write_read.ensures.fits;
       bytes = c.write_read.ensures.bytes ∙ ap (λ given. written_over (54 + 28 * length given) (read_reply kind writes c.args.reading.now given) out) same;
     }
