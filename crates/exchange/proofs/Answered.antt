@@ -124,24 +124,24 @@ module _ {R : Type 0} (reads : List ℕ → Result R RecordFault) (w : World) (n
           ∙ ap (λ rest. gives ++ rest) (sym (drop-append-le (length gives) (take n row) (drop n row) (omega (arith, orders_few order e, length-take n row))) ∙ ap (drop (length gives)) (take-append-drop n row))
 
   module _ (kind : ℕ) (writes : R → List ℕ) (bytes : ℕ) (least : 82 ≤ bytes) (takes : 54 + 28 * n ≤ bytes) where
-    order-fits : (order : Order R) (v : Option ℕ) → verdict (order_checks order w n) ≡ v
+    order_fits : (order : Order R) (v : Option ℕ) → verdict (order_checks order w n) ≡ v
         → length (reply_to kind writes (tell v (order_says reads order w n)) (keep v (order_gives reads order w n) [])) ≤ bytes
-    order-fits order (Some number) e = omega (arith, refusal_short number)
-    order-fits (Enter time r) None e = omega arith
-    order-fits (Listen party mark level) None e = omega arith
-    order-fits (Show call) None e = omega arith
-    order-fits (Ask read) None e =
+    order_fits order (Some number) e = omega (arith, refusal_short number)
+    order_fits (Enter time r) None e = omega arith
+    order_fits (Listen party mark level) None e = omega arith
+    order_fits (Show call) None e = omega arith
+    order_fits (Ask read) None e =
         omega (arith, gives_few read e, read_length kind writes (read_answer reads read w.state w.row n) (read_gives reads read w.state w.row n))
 
-    asked-fits : (asked : Result (Order R) TelegramFault) → length (sent_reply reads kind writes asked w n) ≤ bytes
-    asked-fits (Ok order) = order-fits order _ refl
-    asked-fits (Err fault) = omega (arith, refusal_short (fault_number fault))
+    asked_fits : (asked : Result (Order R) TelegramFault) → length (sent_reply reads kind writes asked w n) ≤ bytes
+    asked_fits (Ok order) = order_fits order _ refl
+    asked_fits (Err fault) = omega (arith, refusal_short (fault_number fault))
 
   -- the buffer takes the reply
   pub reply_fits : (kind : ℕ) (writes : R → List ℕ) (telegram : List ℕ) (room bytes : ℕ) → Roomy room n bytes
       → length (sent_reply reads kind writes (asked_of reads telegram room) w n) ≤ bytes
   reply_fits kind writes telegram room bytes roomy = elim (heard telegram room) [
-    | inl much ↦ asked-fits kind writes bytes (roomy much).0 (roomy much).1 (asked_of reads telegram room)
+    | inl much ↦ asked_fits kind writes bytes (roomy much).0 (roomy much).1 (asked_of reads telegram room)
     | inr none ↦
         let gone = ap (λ q. length (sent_reply reads kind writes (ordered reads q) w n)) none.1 ∙ ap length none.2 in
         omega (arith, gone)

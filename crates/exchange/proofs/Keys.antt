@@ -44,9 +44,9 @@ back_in : (call : Keyed) (s : ListState) (number n : ℕ) (end : ListState) → 
     → ◌≡◌ {A = Told (Unit {0})} (refused n) (tell (verdict (keyed_checks call (with_key Out s) number number)) tt)
     → end ≡ with_key In (left (keyed_checks call (with_key Out s) number number) (keyed_state call (with_key Out s)) (with_key Out s))
     → (◌≡◌ {A = Told Said} (refused n) (decided (own_key_checks call s number) Done)) × (end ≡ left (own_key_checks call s number) (own_key_state call s) s)
-back_in call s number n end e told-so ends =
+back_in call s number n end e told_so ends =
     let v : Option ℕ = verdict (keyed_checks call (with_key Out s) number number) in
-    let is : v ≡ Some n = refused_so v n tt told-so in
+    let is : v ≡ Some n = refused_so v n tt told_so in
     let first : verdict (own_key_checks call s number) ≡ Some n = ap (λ b. cond b (Some 26) v) e ∙ is in (
       ap (λ o. tell o Done) (sym first),
       ends ∙ ap (λ o. with_key In (keep o (keyed_state call (with_key Out s)) (with_key Out s))) is
@@ -62,15 +62,15 @@ pub refused_back : (call : Keyed) (key : ServiceKey) (s s1 s2 end : ListState) (
     → ◌≡◌ {A = Told (Unit {0})} (accepted tt) (decided (key_checks s2 n2 key.book) tt)
     → end ≡ left (key_checks s2 n2 key.book) (with_key In s2) s2
     → (◌≡◌ {A = Told Said} (refused n) (decided (own_key_checks call s number) Done)) × (end ≡ left (own_key_checks call s number) (own_key_state call s) s)
-refused_back call key s s1 s2 end number n1 n2 n took state1 same1 told-so state2 handed-so ends =
+refused_back call key s s1 s2 end number n1 n2 n took state1 same1 told_so state2 handed_so ends =
     let taken = accepted_so (verdict (take_checks s)) key (key_of number) took in
-    let is-in : out s.key ≡ false = open_first (out s.key) 26 None taken.0 in
+    let is_in : out s.key ≡ false = open_first (out s.key) 26 None taken.0 in
     let own : key.book ≡ number = ap (λ k. k.book) taken.1 in
     let with_it : s1 ≡ with_key Out s = state1 ∙ ap (λ v. keep v (with_key Out s) s) taken.0 in
-    let back : end ≡ with_key In s2 = ends ∙ ap (λ v. keep v (with_key In s2) s2) (accepted_so (verdict (key_checks s2 n2 key.book)) tt tt handed-so).0 in
+    let back : end ≡ with_key In s2 = ends ∙ ap (λ v. keep v (with_key In s2) s2) (accepted_so (verdict (key_checks s2 n2 key.book)) tt tt handed_so).0 in
     let P : ListState → ℕ → ℕ → Type 0 = λ t m k. (◌≡◌ {A = Told (Unit {0})} (refused n) (decided (keyed_checks call t m k) tt)) × (s2 ≡ left (keyed_checks call t m k) (keyed_state call t) t) in
-    let all : P (with_key Out s) number number = subst (λ t. P t number number) with_it (subst₂ (λ m k. P s1 m k) same1 own (told-so, state2)) in
-    back_in call s number n end is-in all.0 (back ∙ ap (with_key In) all.1)
+    let all : P (with_key Out s) number number = subst (λ t. P t number number) with_it (subst₂ (λ m k. P s1 m k) same1 own (told_so, state2)) in
+    back_in call s number n end is_in all.0 (back ∙ ap (with_key In) all.1)
 
 -- a telegram leaves the key where it was
 pub key_stays : {R : Type 0} (asked : Result (Order R) TelegramFault) (w : World) (n : ℕ) → (sent_state asked w n).key ≡ w.state.key

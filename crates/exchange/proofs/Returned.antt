@@ -89,13 +89,13 @@ module _ {R : Type 0} (reads : List ℕ → Result R RecordFault) (w : World) (n
   lawful (Read.Span first last limit) l = lawful_count _ _ l
 
   module _ {V : Type 0} (writes : R → List ℕ) (means : R → V) (kind : ℕ) (law : (r : R) → ReadsBack means (reads (writes r)) r) where
-    accepted-back : (order : Order R) → verdict (order_checks order w n) ≡ None → SaidFits writes (order_says reads order w n) (order_gives reads order w n)
+    accepted_back : (order : Order R) → verdict (order_checks order w n) ≡ None → SaidFits writes (order_says reads order w n) (order_gives reads order w n)
         → (room : ℕ) → 144 ≤ room
         → TakenAs reads writes means (accepted (order_says reads order w n)) (order_gives reads order w n) (reply_of kind reads (said_reply kind writes (order_says reads order w n) (order_gives reads order w n)) room)
-    accepted-back (Enter time r) e fits room much = entered_back kind reads _ room fits
-    accepted-back (Listen party mark level) e fits room much = status_back kind reads 0 room (inl refl)
-    accepted-back (Show call) e fits room much = status_back kind reads 0 room (inl refl)
-    accepted-back (Ask read) e fits room much =
+    accepted_back (Enter time r) e fits room much = entered_back kind reads _ room fits
+    accepted_back (Listen party mark level) e fits room much = status_back kind reads 0 room (inl refl)
+    accepted_back (Show call) e fits room much = status_back kind reads 0 room (inl refl)
+    accepted_back (Ask read) e fits room much =
         let gives = read_gives reads read w.state w.row n in
         let most = few read e in
         let again = again_of reads writes means law gives in (
@@ -112,14 +112,14 @@ module _ {R : Type 0} (reads : List ℕ → Result R RecordFault) (w : World) (n
         go true = tt
         go false = λ room much. (from_ten number is, status_back kind reads number room (inr is))
 
-    order-back : (order : Order R) (v : Option ℕ) → verdict (order_checks order w n) ≡ v → ((number : ℕ) → v ≡ Some number → is_refusal_number number ≡ true)
+    order_back : (order : Order R) (v : Option ℕ) → verdict (order_checks order w n) ≡ v → ((number : ℕ) → v ≡ Some number → is_refusal_number number ≡ true)
         → ToldFits writes (tell v (order_says reads order w n)) (keep v (order_gives reads order w n) [])
         → ReadBack reads writes means kind (reply_to kind writes (tell v (order_says reads order w n)) (keep v (order_gives reads order w n) [])) (tell v (order_says reads order w n)) (keep v (order_gives reads order w n) [])
-    order-back order (Some number) e is fits = refused_back number [] (is number refl)
-    order-back (Enter time r) None e is fits = accepted-back (Enter time r) e fits
-    order-back (Listen party mark level) None e is fits = accepted-back (Listen party mark level) e fits
-    order-back (Show call) None e is fits = accepted-back (Show call) e fits
-    order-back (Ask read) None e is fits = accepted-back (Ask read) e fits
+    order_back order (Some number) e is fits = refused_back number [] (is number refl)
+    order_back (Enter time r) None e is fits = accepted_back (Enter time r) e fits
+    order_back (Listen party mark level) None e is fits = accepted_back (Listen party mark level) e fits
+    order_back (Show call) None e is fits = accepted_back (Show call) e fits
+    order_back (Ask read) None e is fits = accepted_back (Ask read) e fits
 
     -- whatever reply is written is taken as what was told
     pub sent_back : (asked : Result (Order R) TelegramFault) (r : Result Said TelegramFault) → said_told r ≡ sent_told reads asked w n
@@ -127,5 +127,5 @@ module _ {R : Type 0} (reads : List ℕ → Result R RecordFault) (w : World) (n
         → ReadBack reads writes means kind (sent_reply reads kind writes asked w n) (sent_told reads asked w n) (sent_gives reads asked w n)
     sent_back (Err fault) r told fits = refused_back (fault_number fault) [] (stands fault)
     sent_back (Ok order) r told fits =
-        order-back order (verdict (order_checks order w n)) refl
+        order_back order (verdict (order_checks order w n)) refl
         (λ number e. refused_stands r number (told ∙ ap (λ v. tell v (order_says reads order w n)) e)) fits

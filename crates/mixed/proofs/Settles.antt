@@ -19,7 +19,7 @@ use Rattle.exchange.specs.declared.orders.Order.{Order}
 use Rattle.exchange.specs.declared.orders.Said.{Said}
 use Rattle.exchange.specs.declared.orders.Said.TheVariants.{Done, Entered, Gave}
 use Rattle.exchange.specs.Orders.{frame_room, order_checks, order_gives}
-use Rattle.exchange.specs.Answering.{sent_told, sent_gives, sent_reply, replied as laid-over}
+use Rattle.exchange.specs.Answering.{sent_told, sent_gives, sent_reply, replied as laid_over}
 use Rattle.reading_end.specs.declared.reply.Reply.{Reply}
 use Rattle.exchange.specs.Back.{TakenAs, ReadBack}
 use Rattle.runs.specs.Histories.{History}
@@ -50,8 +50,8 @@ module _ {R V : Type 0} (K : Numbered R V) where
   still_within first last (f ∷ fs) x = still_one (leb first f.time && leb f.time last) f (within first last fs) x.0 (still_within first last fs x.1)
 
   module _ (keeps : Keeps K.kind) (alike : Alike K.kind) {slots : ℕ} {s : Store} {h : History R} (i : Inv K.kind slots s h) where
-    still-at : (p : ℕ) → s.left < p → p ≤ s.last → (f : Frame R) × (frame_at K.kind.reads s.row p ≡ Ok f) × Still f
-    still-at p l l' =
+    still_at : (p : ℕ) → s.left < p → p ≤ s.last → (f : Frame R) × (frame_at K.kind.reads s.row p ≡ Ok f) × Still f
+    still_at p l l' =
         let x = i.every p (omega arith) l' in
         let e = i.stored p x.0 x.1 x.2 l in
         let b = reads_back keeps i x.1 _ refl (keeps x.1) in (
@@ -63,7 +63,7 @@ module _ {R V : Type 0} (K : Numbered R V) where
     pub still_frames : (n p : ℕ) → s.left ≤ p → n ≤ s.last - p → AllByRecursion Still (frames (frame_at K.kind.reads s.row) n (p + 1))
     still_frames zero p l l' = subst (AllByRecursion Still) (sym (frames_none _ (p + 1))) tt
     still_frames (suc n) p l l' =
-        let x = still-at (p + 1) (omega arith) (omega arith) in
+        let x = still_at (p + 1) (omega arith) (omega arith) in
         subst (AllByRecursion Still) (sym (frames_one _ n (p + 1) x.0 x.1)) (x.2, still_frames n (p + 1) (omega arith) (omega arith))
 
 module _ {R V : Type 0} (K : Numbered R V) (keeps : Keeps K.kind) (alike : Alike K.kind) (number : ℕ) (row : List Slot) (uses : List (Use R)) where
@@ -125,7 +125,7 @@ module _ {R V : Type 0} (K : Numbered R V) where
   -- the same of the bytes that were written
   pub sent_seen : (w : World) (bytes : List ℕ) (frames buffer : ℕ) (got out before : List ℕ) (k : ℕ) → Settled K w
       → got ≡ take k out → k ≡ length (sent_reply K.kind.reads K.number K.kind.writes (asks K bytes frames buffer) w (frame_room frames buffer))
-      → out ≡ laid-over (sent_reply K.kind.reads K.number K.kind.writes (asks K bytes frames buffer) w (frame_room frames buffer)) before
+      → out ≡ laid_over (sent_reply K.kind.reads K.number K.kind.writes (asks K bytes frames buffer) w (frame_room frames buffer)) before
       → ReadBack K.kind.reads K.kind.writes K.kind.means K.number (take k out) (sent_told K.kind.reads (asks K bytes frames buffer) w (frame_room frames buffer)) (sent_gives K.kind.reads (asks K bytes frames buffer) w (frame_room frames buffer))
       → seen_reply got (taken_answer (reply_of K.number K.kind.reads got 144)) ≡ use_seen K (sent bytes frames buffer) w
   sent_seen w bytes frames buffer got out before k settled is long laid back =
@@ -139,7 +139,7 @@ module _ {R V : Type 0} (K : Numbered R V) where
 -- one telegram more, after any list of uses
 pub goes_on : {R V : Type 0} (K : Numbered R V) → Keeps K.kind → Alike K.kind → (w w' : World) (bytes : List ℕ) (frames buffer : ℕ) (out before : List ℕ) (k : ℕ)
     → w' ≡ use_after K (sent bytes frames buffer) w → k ≡ length (sent_reply K.kind.reads K.number K.kind.writes (asks K bytes frames buffer) w (frame_room frames buffer))
-    → out ≡ laid-over (sent_reply K.kind.reads K.number K.kind.writes (asks K bytes frames buffer) w (frame_room frames buffer)) before
+    → out ≡ laid_over (sent_reply K.kind.reads K.number K.kind.writes (asks K bytes frames buffer) w (frame_room frames buffer)) before
     → ReadBack K.kind.reads K.kind.writes K.kind.means K.number (take k out) (sent_told K.kind.reads (asks K bytes frames buffer) w (frame_room frames buffer)) (sent_gives K.kind.reads (asks K bytes frames buffer) w (frame_room frames buffer))
     → Goes_on K w w' bytes frames buffer (take k out)
 goes_on {R} K keeps alike w w' bytes frames buffer out before k leaves long laid back number row uses led =

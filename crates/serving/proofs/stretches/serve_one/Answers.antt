@@ -1,4 +1,4 @@
-use Rattle.std.proofs.Common.{cond, is_ok, vec_items, ap, ◌∙◌}
+use Rattle.std.proofs.Common.{cond, is_ok, vec_items, ap, ◌∙◌, arith}
 use Rattle.runs.specs.Steps.{world}
 use Rattle.serving.specs.Sessions.{reply_of, after}
 use Rattle.serving.proofs.Replied.{within, written_none, written_put}
@@ -15,7 +15,7 @@ returns-then-length-eq0 g c =
     }
 
 pub slice_bounds-put-end : goal.slice_bounds-put-end
-slice_bounds-put-end g c = within _ c.args.buffer.now _ _ c.serve-length.ensures.length c.serve-length.ensures.buffer
+slice_bounds-put-end g c = let l = within _ c.args.buffer.now _ _ c.serve-length.ensures.length c.serve-length.ensures.buffer in omega arith
 
 pub returns : goal.returns
 unfolding reply_of after
