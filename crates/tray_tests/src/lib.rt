@@ -2,7 +2,7 @@
 // what becomes of the memory that was lent.
 #![tactic(auto)]
 
-ghost use Rattle.std.specs.Prelude.{◌≡◌, ◌++◌, slice_set};
+ghost use Rattle.std.specs.Prelude.{◌≡◌, ◌++◌, replicate, slice_set};
 ghost use Rattle.trays.specs.Rows.{put_answer};
 ghost use Rattle.trays.specs.Limit.{used, unused, joined};
 ghost use Rattle.trays.specs.Packed.{packed_row, left_over, put_bytes};
@@ -10,6 +10,13 @@ ghost use Rattle.trays.specs.SlotBytes.{slot_bytes, slot_in};
 ghost use Rattle.tray_tests.specs.Copied.{copied_answer, copied_row};
 
 use trays::{Annex, OpenTray, PackedTray, Slot, Tray, TrayFault};
+
+// A slot of zeros.
+pub fn zero_slot() -> Slot
+    ensures { result ≡ record { time = 0; position = 0; words = replicate 4 0 } }
+{
+    Slot::default()
+}
 
 // Copies one slot to another, in any tray.
 pub fn copy_slot<T: Tray>(tray: &mut T, from: u32, to: u32) -> Result<(), TrayFault>

@@ -1,4 +1,5 @@
 pub mod Rows
+mod Mapped
 mod Used
 mod EndToEnd
 mod Parts
