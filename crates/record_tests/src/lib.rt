@@ -3,7 +3,9 @@
 
 #[cfg(test)]
 mod tests {
-    use records::{Channel, Degree, Frame, Measured, Message, Record, RecordFault, Temperature};
+    use records::{
+        Channel, Degree, Frame, Measured, Message, NoDegree, Record, RecordFault, Temperature,
+    };
     use std::test::Fail;
 
     // The first bad word; 0 where the words are lawful.
@@ -61,9 +63,9 @@ mod tests {
     #[test]
     fn ranges(rt: HostRuntime) {
         for (number, lawful) in [(0, false), (1, true), (6, true), (7, false)] {
-            match Degree::new(number) {
-                Some(degree) => assert!(rt; lawful && degree.number() == number),
-                None => assert!(rt; !lawful),
+            match Degree::try_from(number) {
+                Ok(degree) => assert!(rt; lawful && degree.number() == number),
+                Err(none) => assert!(rt; !lawful && none == NoDegree(number)),
             }
         }
         for (number, lawful) in [(0, false), (1, true), (64, true), (65, false)] {
@@ -90,8 +92,8 @@ mod tests {
         ] {
             let value = measured(1, 0, 0, tenths).ok_or("out of range")?;
             assert_eq!(rt; value.write(), [1, 0, 0, word]);
-            let back = Measured::read([1, 0, 0, word]).ok().ok_or("refused")?;
-            assert_eq!(rt; back.temperature.tenths(), tenths);
+            assert_eq!(rt; value.temperature.tenths(), tenths);
+            assert_eq!(rt; Measured::read([1, 0, 0, word]), Ok(value));
         }
         Ok(())
     }
@@ -109,6 +111,7 @@ mod tests {
         let back = Message::read(words).ok().ok_or("refused")?;
         assert_eq!(rt; (back.maker, back.object), (513, 1027));
         assert_eq!(rt; (back.degree.number(), back.process), (5, 4_000_000_000));
+        assert_eq!(rt; back, message);
         Ok(())
     }
 
@@ -120,13 +123,13 @@ mod tests {
         let back = Measured::read(words).ok().ok_or("refused")?;
         assert_eq!(rt; (back.channel.number(), back.bicycles), (64, 65_535));
         assert_eq!(rt; (back.walkers, back.temperature.tenths()), (12_345, -123));
+        assert_eq!(rt; back, value);
         Ok(())
     }
 
     #[test]
     fn numbers(rt: HostRuntime) {
-        assert_eq!(rt; (Message::NUMBER, Message::kind()), (1, 1));
-        assert_eq!(rt; (Measured::NUMBER, Measured::kind()), (2, 2));
+        assert_eq!(rt; (Message::NUMBER, Measured::NUMBER), (1, 2));
         for (fault, word) in [
             (RecordFault::Word1, 1),
             (RecordFault::Word2, 2),
