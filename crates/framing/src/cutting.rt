@@ -5,7 +5,8 @@ ghost use Rattle.framing.specs.Frames.{piece_told, front};
 // The longest telegram.
 const LONGEST: usize = 4096;
 
-#[derive(Clone, Copy)]
+// No Result: that more bytes have to come is no error, and a station then waits for them.
+#[derive(Clone, Copy, PartialEq, Eq, Debug)]
 pub enum Piece<'a> {
     // a telegram, and the bytes after it
     Telegram(&'a [u8], &'a [u8]),

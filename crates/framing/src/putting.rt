@@ -9,8 +9,8 @@ pub fn put(out: &mut Vec<u8>, reply: &[u8]) -> Result<(), AllocError>
     ensures { let old = out.old.items in out.new.items ≡ (if is_ok result then old ++ framed reply.now else old) }
 {
     let before = out.len();
-    let length = reply.len().to_be_bytes();
-    out.extend_from_slice(&length[4..8])?;
+    let [_, _, _, _, a, b, c, d] = reply.len().to_be_bytes();
+    out.extend_from_slice(&[a, b, c, d])?;
     match out.extend_from_slice(reply) {
         Ok(()) => Ok(()),
         Err(fault) => {

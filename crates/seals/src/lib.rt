@@ -23,8 +23,7 @@ fn sums(bytes: &[u8]) -> (u16, u16)
 pub fn sealed(bytes: &[u8]) -> bool
     ensures { result ≡ is_sealed bytes.now }
 {
-    let (c0, c1) = sums(bytes);
-    c0 == 0 && c1 == 0
+    sums(bytes) == (0, 0)
 }
 
 // The seal of these bytes.
