@@ -8,11 +8,11 @@ parsed_head : (t h l at : ℕ) (r : List ℕ) (o : Option Told) → h * 256 + l 
 unfolding parse_field
 parsed_head t h l at r o fit es = sym (cond-true _ _ _ (le-leb _ _ fit) ∙ ap (λ o. parse_rest o (drop (h * 256 + l) r) at) (sym es))
 
-pub parsed : (bs : List ℕ) (at h l : ℕ) (o : Option Told) (v after rest : List ℕ) → 3 ≤ length bs → rest ≡ take (length bs - 3) (drop 3 bs) → h ≡ get_or bs 1 0 → l ≡ get_or bs 2 0 → h * 256 + l ≤ length rest → v ≡ take (h * 256 + l) rest → after ≡ drop (h * 256 + l) rest → o ≡ shape (get_or bs 0 0) v at → parse_rest o after at ≡ parse_field bs at
-parsed [] at h l o v after rest long er eh el fit ev ea es = absurd (omega arith)
-parsed (t ∷ []) at h l o v after rest long er eh el fit ev ea es = absurd (omega arith)
-parsed (t ∷ b ∷ []) at h l o v after rest long er eh el fit ev ea es = absurd (omega arith)
-parsed (t ∷ b ∷ d ∷ r) at h l o v after rest long er eh el fit ev ea es =
+pub parsed : (bs : List ℕ) (at n : ℕ) (o : Option Told) (v after rest : List ℕ) → 3 ≤ length bs → rest ≡ take (length bs - 3) (drop 3 bs) → n ≡ get_or bs 1 0 * 256 + get_or bs 2 0 → n ≤ length rest → v ≡ take n rest → after ≡ drop n rest → o ≡ shape (get_or bs 0 0) v at → parse_rest o after at ≡ parse_field bs at
+parsed [] at n o v after rest long er en fit ev ea es = absurd (omega arith)
+parsed (t ∷ []) at n o v after rest long er en fit ev ea es = absurd (omega arith)
+parsed (t ∷ b ∷ []) at n o v after rest long er en fit ev ea es = absurd (omega arith)
+parsed (t ∷ b ∷ d ∷ r) at n o v after rest long er en fit ev ea es =
     let q : rest ≡ r = er ∙ take_rest (t ∷ b ∷ d ∷ r) 3 in
     let fits : b * 256 + d ≤ length r = omega (arith, ap length q) in
     let ev' : v ≡ take (b * 256 + d) r = cc in

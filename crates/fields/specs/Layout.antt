@@ -1,8 +1,11 @@
 -- Fields as lists of bytes: what a field tells, which tags there are with the lengths of their values, and how one is read.
-use Rattle.std.specs.Prelude.{ℕ, ◌+◌, ◌*◌, Bool, false, cond, ◌&&◌, ◌||◌, List, [], ◌∷◌, length, take, drop, Some, None, Ok, Err, Option, Result, ◌==◌, nat_le}
+use Rattle.std.specs.Prelude.{◌≡◌, ◌≢◌, ℕ, ◌+◌, ◌*◌, Bool, false, cond, ◌&&◌, ◌||◌, List, [], ◌∷◌, length, take, drop, Some, None, Ok, Err, Option, Result, MatchResult, ◌==◌, nat_le}
 use Rattle.std.specs.Borrow.{Bor}
 use Rattle.fields.specs.declared.parts.Field.{Field}
-use Rattle.fields.specs.declared.parts.Field.TheVariants.{Method, Time, Position, Limit, FillLevel, Party, LastTime, Words, Status, FromTime, FromPosition, TillTime, TillPosition, Missed, Version, Count, Called, FrameField}
+use Rattle.fields.specs.declared.parts.Field.TheVariants as Of
+use Rattle.fields.specs.declared.tag.Tag.{Tag}
+use Rattle.fields.specs.declared.tag.Tag.TheVariants.{Method, Time, Position, Limit, FillLevel, Party, LastTime, Words, Status, FromTime, FromPosition, TillTime, TillPosition, Missed, Version, Count, Called, Frame}
+use Rattle.fields.specs.declared.tag.UnknownTag.{UnknownTag}
 use Rattle.fields.specs.declared.parts.Misfit.{Misfit}
 
 -- a field: its tag, its value bytes and its offset
@@ -11,29 +14,50 @@ pub record Told : Type 0 where
   pub value : List ℕ
   pub place : ℕ
 
-abbrev pub tell : Field → Told
-tell (Method v at) = record { tag = 1; value = v.now; place = at }
-tell (Time v at) = record { tag = 2; value = v.now; place = at }
-tell (Position v at) = record { tag = 3; value = v.now; place = at }
-tell (Limit v at) = record { tag = 4; value = v.now; place = at }
-tell (FillLevel v at) = record { tag = 5; value = v.now; place = at }
-tell (Party v at) = record { tag = 6; value = v.now; place = at }
-tell (LastTime v at) = record { tag = 7; value = v.now; place = at }
-tell (Words v at) = record { tag = 8; value = v.now; place = at }
-tell (Status v at) = record { tag = 0x10; value = v.now; place = at }
-tell (FromTime v at) = record { tag = 0x11; value = v.now; place = at }
-tell (FromPosition v at) = record { tag = 0x12; value = v.now; place = at }
-tell (TillTime v at) = record { tag = 0x13; value = v.now; place = at }
-tell (TillPosition v at) = record { tag = 0x14; value = v.now; place = at }
-tell (Missed v at) = record { tag = 0x15; value = v.now; place = at }
-tell (Version v at) = record { tag = 0x16; value = v.now; place = at }
-tell (Count v at) = record { tag = 0x17; value = v.now; place = at }
-tell (Called v at) = record { tag = 0x18; value = v.now; place = at }
-tell (FrameField v at) = record { tag = 0x20; value = v.now; place = at }
+-- the byte that stands for a tag
+abbrev pub tag_number : Tag → ℕ
+tag_number Method = 1
+tag_number Time = 2
+tag_number Position = 3
+tag_number Limit = 4
+tag_number FillLevel = 5
+tag_number Party = 6
+tag_number LastTime = 7
+tag_number Words = 8
+tag_number Status = 0x10
+tag_number FromTime = 0x11
+tag_number FromPosition = 0x12
+tag_number TillTime = 0x13
+tag_number TillPosition = 0x14
+tag_number Missed = 0x15
+tag_number Version = 0x16
+tag_number Count = 0x17
+tag_number Called = 0x18
+tag_number Frame = 0x20
 
-abbrev pub field_told : Option Field → Option Told
-field_told (Some f) = Some (tell f)
-field_told None = None
+-- the tag with this number, or an error with a number that no tag has
+abbrev pub Numbers : ℕ → Result Tag UnknownTag → Type 0
+Numbers n r = MatchResult r (λ tag. tag_number tag ≡ n) (λ e. (e.0 ≡ n) × ((tag : Tag) → tag_number tag ≢ n))
+
+abbrev pub tell : Field → Told
+tell (Of.Method v at) = record { tag = tag_number Method; value = v.now; place = at }
+tell (Of.Time v at) = record { tag = tag_number Time; value = v.now; place = at }
+tell (Of.Position v at) = record { tag = tag_number Position; value = v.now; place = at }
+tell (Of.Limit v at) = record { tag = tag_number Limit; value = v.now; place = at }
+tell (Of.FillLevel v at) = record { tag = tag_number FillLevel; value = v.now; place = at }
+tell (Of.Party v at) = record { tag = tag_number Party; value = v.now; place = at }
+tell (Of.LastTime v at) = record { tag = tag_number LastTime; value = v.now; place = at }
+tell (Of.Words v at) = record { tag = tag_number Words; value = v.now; place = at }
+tell (Of.Status v at) = record { tag = tag_number Status; value = v.now; place = at }
+tell (Of.FromTime v at) = record { tag = tag_number FromTime; value = v.now; place = at }
+tell (Of.FromPosition v at) = record { tag = tag_number FromPosition; value = v.now; place = at }
+tell (Of.TillTime v at) = record { tag = tag_number TillTime; value = v.now; place = at }
+tell (Of.TillPosition v at) = record { tag = tag_number TillPosition; value = v.now; place = at }
+tell (Of.Missed v at) = record { tag = tag_number Missed; value = v.now; place = at }
+tell (Of.Version v at) = record { tag = tag_number Version; value = v.now; place = at }
+tell (Of.Count v at) = record { tag = tag_number Count; value = v.now; place = at }
+tell (Of.Called v at) = record { tag = tag_number Called; value = v.now; place = at }
+tell (Of.Frame v at) = record { tag = tag_number Frame; value = v.now; place = at }
 
 -- what a reading of a field tells
 abbrev pub read_told : Result (Field × Bor (List ℕ)) Misfit → Result (Told × List ℕ) ℕ
@@ -45,6 +69,11 @@ abbrev pub lengths : List (ℕ × ℕ)
 lengths =
     (1, 2) ∷ (2, 4) ∷ (3, 4) ∷ (4, 2) ∷ (5, 1) ∷ (6, 1) ∷ (7, 4) ∷ (8, 16)
     ∷ (0x10, 2) ∷ (0x11, 4) ∷ (0x12, 4) ∷ (0x13, 4) ∷ (0x14, 4) ∷ (0x15, 4) ∷ (0x16, 4) ∷ (0x17, 2) ∷ (0x18, 1) ∷ (0x20, 25) ∷ []
+
+-- the length that stands beside a number
+abbrev pub length_in : List (ℕ × ℕ) → ℕ → ℕ
+length_in [] tag = 0
+length_in (row ∷ rows) tag = cond (tag == row.0) row.1 (length_in rows tag)
 
 abbrev pub listed : List (ℕ × ℕ) → ℕ → ℕ → Bool
 listed [] tag length = false

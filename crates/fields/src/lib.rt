@@ -6,6 +6,10 @@
 
 mod parts;
 mod reader;
+mod tag;
+mod value;
 
 pub use parts::{Field, Misfit, next_field};
-pub use reader::{RawFrame, Reader};
+pub use reader::Reader;
+pub use tag::{Tag, UnknownTag};
+pub use value::{RawFrame, Value};

@@ -1,9 +1,12 @@
 // Fields as parts of the bytes that they were read from.
 ghost use Rattle.std.specs.Prelude.{◌≡◌};
-ghost use Rattle.fields.specs.Layout.{shape, parse_field, field_told, read_told};
+ghost use Rattle.fields.specs.Layout.{tag_number, tell, parse_field, read_told};
 
-// Each case has the bytes of the value and the offset of the field.
-#[derive(Clone, Copy)]
+use crate::Tag;
+
+// A field by its tag. Each case lends the bytes of the value, a part of the telegram, with the offset of the
+// field, so that a match on a field hands them out at once; a struct of tag, value and offset would be shorter.
+#[derive(Clone, Copy, Debug)]
 pub enum Field<'a> {
     // of a request
     Method(&'a [u8], usize),
@@ -24,40 +27,91 @@ pub enum Field<'a> {
     Version(&'a [u8], usize),
     Count(&'a [u8], usize),
     Called(&'a [u8], usize),
-    FrameField(&'a [u8], usize),
+    Frame(&'a [u8], usize),
+}
+
+impl<'a> Field<'a> {
+    // The field of this tag.
+    fn of(tag: Tag, value: &'a [u8], at: usize) -> Field<'a>
+        ensures { tell result ≡ record { tag = tag_number tag; value = value.now; place = at } }
+    {
+        match tag {
+            Tag::Method => Field::Method(value, at),
+            Tag::Time => Field::Time(value, at),
+            Tag::Position => Field::Position(value, at),
+            Tag::Limit => Field::Limit(value, at),
+            Tag::FillLevel => Field::FillLevel(value, at),
+            Tag::Party => Field::Party(value, at),
+            Tag::LastTime => Field::LastTime(value, at),
+            Tag::Words => Field::Words(value, at),
+            Tag::Status => Field::Status(value, at),
+            Tag::FromTime => Field::FromTime(value, at),
+            Tag::FromPosition => Field::FromPosition(value, at),
+            Tag::TillTime => Field::TillTime(value, at),
+            Tag::TillPosition => Field::TillPosition(value, at),
+            Tag::Missed => Field::Missed(value, at),
+            Tag::Version => Field::Version(value, at),
+            Tag::Count => Field::Count(value, at),
+            Tag::Called => Field::Called(value, at),
+            Tag::Frame => Field::Frame(value, at),
+        }
+    }
+
+    pub(crate) fn tag(self) -> Tag
+        ensures { tag_number result ≡ (tell self.entry).tag }
+    {
+        match self {
+            Field::Method(_, _) => Tag::Method,
+            Field::Time(_, _) => Tag::Time,
+            Field::Position(_, _) => Tag::Position,
+            Field::Limit(_, _) => Tag::Limit,
+            Field::FillLevel(_, _) => Tag::FillLevel,
+            Field::Party(_, _) => Tag::Party,
+            Field::LastTime(_, _) => Tag::LastTime,
+            Field::Words(_, _) => Tag::Words,
+            Field::Status(_, _) => Tag::Status,
+            Field::FromTime(_, _) => Tag::FromTime,
+            Field::FromPosition(_, _) => Tag::FromPosition,
+            Field::TillTime(_, _) => Tag::TillTime,
+            Field::TillPosition(_, _) => Tag::TillPosition,
+            Field::Missed(_, _) => Tag::Missed,
+            Field::Version(_, _) => Tag::Version,
+            Field::Count(_, _) => Tag::Count,
+            Field::Called(_, _) => Tag::Called,
+            Field::Frame(_, _) => Tag::Frame,
+        }
+    }
+
+    pub(crate) fn value(self) -> &'a [u8]
+        ensures { result.now ≡ (tell self.entry).value }
+    {
+        match self {
+            Field::Method(value, _)
+            | Field::Time(value, _)
+            | Field::Position(value, _)
+            | Field::Limit(value, _)
+            | Field::FillLevel(value, _)
+            | Field::Party(value, _)
+            | Field::LastTime(value, _)
+            | Field::Words(value, _)
+            | Field::Status(value, _)
+            | Field::FromTime(value, _)
+            | Field::FromPosition(value, _)
+            | Field::TillTime(value, _)
+            | Field::TillPosition(value, _)
+            | Field::Missed(value, _)
+            | Field::Version(value, _)
+            | Field::Count(value, _)
+            | Field::Called(value, _)
+            | Field::Frame(value, _) => value,
+        }
+    }
 }
 
 // The offset of the first field that does not fit.
-#[derive(Clone, Copy)]
+#[derive(Clone, Copy, PartialEq, Eq, Debug)]
 pub struct Misfit {
     pub at: usize,
-}
-
-// The field with this tag and value, if the value has the tag's length.
-fn shaped<'a>(tag: u8, value: &'a [u8], at: usize) -> Option<Field<'a>>
-    ensures { field_told result ≡ shape tag value.now at }
-{
-    match (tag, value.len()) {
-        (1, 2) => Some(Field::Method(value, at)),
-        (2, 4) => Some(Field::Time(value, at)),
-        (3, 4) => Some(Field::Position(value, at)),
-        (4, 2) => Some(Field::Limit(value, at)),
-        (5, 1) => Some(Field::FillLevel(value, at)),
-        (6, 1) => Some(Field::Party(value, at)),
-        (7, 4) => Some(Field::LastTime(value, at)),
-        (8, 16) => Some(Field::Words(value, at)),
-        (0x10, 2) => Some(Field::Status(value, at)),
-        (0x11, 4) => Some(Field::FromTime(value, at)),
-        (0x12, 4) => Some(Field::FromPosition(value, at)),
-        (0x13, 4) => Some(Field::TillTime(value, at)),
-        (0x14, 4) => Some(Field::TillPosition(value, at)),
-        (0x15, 4) => Some(Field::Missed(value, at)),
-        (0x16, 4) => Some(Field::Version(value, at)),
-        (0x17, 2) => Some(Field::Count(value, at)),
-        (0x18, 1) => Some(Field::Called(value, at)),
-        (0x20, 25) => Some(Field::FrameField(value, at)),
-        _ => None,
-    }
 }
 
 // The first field of `bytes`, which lie at offset `at` of the telegram, and the bytes after it.
@@ -67,13 +121,13 @@ pub fn next_field<'a>(bytes: &'a [u8], at: usize) -> Result<(Field<'a>, &'a [u8]
     let [tag, hi, lo, rest @ ..] = bytes else {
         return Err(Misfit { at });
     };
-    let length = usize::from(*hi) * 256 + usize::from(*lo);
+    let length = usize::from(u16::from_be_bytes([*hi, *lo]));
     if length > rest.len() {
         return Err(Misfit { at });
     }
     let (value, after) = rest.split_at(length);
-    match shaped(*tag, value, at) {
-        Some(field) => Ok((field, after)),
-        None => Err(Misfit { at }),
+    match Tag::try_from(*tag) {
+        Ok(tag) if tag.length() == length => Ok((Field::of(tag, value, at), after)),
+        _ => Err(Misfit { at }),
     }
 }
