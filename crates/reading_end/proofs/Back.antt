@@ -4,9 +4,10 @@ use native.Mathlib.Nat.{div-div-eq-div-mul, mod-add-div}
 use Rattle.std.proofs.lemmas.Bool.{cond-true, eq-eqb}
 use Rattle.records.specs.Laws.{FourWords}
 use Rattle.records.specs.declared.frames.Frame.{Frame}
-use Rattle.fields.specs.declared.reader.RawFrame.{RawFrame}
+use Rattle.fields.specs.declared.value.RawFrame.{RawFrame}
 use Rattle.fields.specs.Layout.{lengths, listed}
-use Rattle.fields.specs.Reading.{big, pick, sized, sized_frame, value_at, byte_at, half_at, word_at, words_of, frame_at}
+use Rattle.fields.specs.Values.{big, words_of, frame_of}
+use Rattle.fields.specs.Reading.{pick, read_as, value_at, byte_at, half_at, word_at, frame_at}
 use Rattle.fields.proofs.Parsing.{field_back}
 use Rattle.replies.specs.Layout.{half, word, words, byte_field, half_field, word_field, frame_bytes, called_number}
 use Rattle.replies.specs.Fits.{FrameFits}
@@ -29,13 +30,13 @@ big_word n h =
     glue n (n / 256) (n / 65536) (n / 16777216) (n / 16777216 % 256) (n / 65536 % 256) (n / 256 % 256) (n % 256) (mod-add-div n 256) (omega (arith, mod-add-div (n / 256) 256)) (omega (arith, mod-add-div (n / 65536) 256)) (mod-eq_of_lt small)
 
 pub byte_back : (t n at : ℕ) (rest : List ℕ) → listed lengths t 1 ≡ true → byte_at t (byte_field t n ++ rest, at) ≡ Ok (n, (rest, at + 3 + 1))
-byte_back t n at rest is = let e : big (n ∷ []) ≡ n = omega arith in ap (sized 1 at) (value_back t 0 1 at (n ∷ []) rest refl is) ∙ ap (λ k. Ok (k, (rest, at + 3 + 1))) e
+byte_back t n at rest is = let e : big (n ∷ []) ≡ n = omega arith in ap (read_as 1 big at) (value_back t 0 1 at (n ∷ []) rest refl is) ∙ ap (λ k. Ok (k, (rest, at + 3 + 1))) e
 
 pub half_back : (t n at : ℕ) (rest : List ℕ) → n < 65536 → listed lengths t 2 ≡ true → half_at t (half_field t n ++ rest, at) ≡ Ok (n, (rest, at + 3 + 2))
-half_back t n at rest fit is = ap (sized 2 at) (value_back t 0 2 at (half n) rest refl is) ∙ ap (λ k. Ok (k, (rest, at + 3 + 2))) (big_half n fit)
+half_back t n at rest fit is = ap (read_as 2 big at) (value_back t 0 2 at (half n) rest refl is) ∙ ap (λ k. Ok (k, (rest, at + 3 + 2))) (big_half n fit)
 
 pub word_back : (t n at : ℕ) (rest : List ℕ) → n < 4294967296 → listed lengths t 4 ≡ true → word_at t (word_field t n ++ rest, at) ≡ Ok (n, (rest, at + 3 + 4))
-word_back t n at rest fit is = ap (sized 4 at) (value_back t 0 4 at (word n) rest refl is) ∙ ap (λ k. Ok (k, (rest, at + 3 + 4))) (big_word n fit)
+word_back t n at rest fit is = ap (read_as 4 big at) (value_back t 0 4 at (word n) rest refl is) ∙ ap (λ k. Ok (k, (rest, at + 3 + 4))) (big_word n fit)
 
 words_back : (ws : List ℕ) → FourWords ws → words_of (words ws) ≡ ws
 words_back [] h = absurd (omega arith)
@@ -52,7 +53,7 @@ pub frame_back : {R : Type 0} (kind : ℕ) (writes : R → List ℕ) (f : Frame 
 unfolding frame_at
 frame_back kind writes f rest at fit =
     let v : List ℕ = kind ∷ (word f.time ++ (word f.position ++ words (writes f.body))) in
-    ap (sized_frame at) (value_back 0x20 0 25 at v rest refl refl)
+    ap (read_as 25 frame_of at) (value_back 0x20 0 25 at v rest refl refl)
     ∙ (λ i. Ok (record { kind = kind; time = big_word f.time fit.time i; position = big_word f.position fit.position i; words = words_back (writes f.body) fit.words i }, (rest, at + 3 + 25)))
 
 -- the parties that are called, as a number and back

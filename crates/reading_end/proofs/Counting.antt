@@ -1,6 +1,6 @@
 -- Reading frames one after another.
 use Rattle.std.proofs.Common.{◌≡◌, ℕ, suc, ◌+◌, ◌-◌, ◌<◌, List, ◌∷◌, Ok, Err, Result, sym, refl, ap, ◌∙◌, arith}
-use Rattle.fields.specs.declared.reader.RawFrame.{RawFrame}
+use Rattle.fields.specs.declared.value.RawFrame.{RawFrame}
 use Rattle.fields.specs.Reading.{Rest, frame_at}
 use Rattle.reading_end.specs.Layouts.{then, frames_at, frames_fault}
 

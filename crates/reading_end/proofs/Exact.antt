@@ -1,10 +1,10 @@
 -- Bytes are taken as a reply exactly where they are one of the three layouts.
-use Rattle.std.proofs.Common.{◌≡◌, ℕ, zero, suc, ◌+◌, ◌-◌, ◌*◌, ◌/◌, ◌%◌, ◌<◌, ◌≤◌, Bool, true, false, cond, not, ◌&&◌, ◌||◌, eqb, ltb, leb, ◌⊎◌, List, [], ◌∷◌, ◌++◌, length, Ok, Err, Result, sym, refl, ap, ◌∙◌, subst, inl, inr, append_assoc, append-nil, mod-eq_of_lt, arith}
+use Rattle.std.proofs.Common.{◌≡◌, ℕ, zero, suc, ◌+◌, ◌-◌, ◌*◌, ◌/◌, ◌%◌, ◌<◌, ◌≤◌, Bool, true, false, cond, ◌||◌, eqb, ltb, leb, ◌⊎◌, List, [], ◌∷◌, ◌++◌, length, Ok, Err, Result, sym, refl, ap, ◌∙◌, subst, inl, inr, append_assoc, append-nil, mod-eq_of_lt, arith}
 use native.Mathlib.Nat.{div-div-eq-div-mul, mod-add-div}
 use Rattle.std.specs.List.{flat_map, AllByRecursion}
 use Rattle.std.proofs.ByRecursion.{All-take}
 use Rattle.std.proofs.lemmas.List.{length-append}
-use Rattle.std.proofs.lemmas.Bool.{and_parts, eqb-true, leb-true, ltb-false, or_cases, or_parts}
+use Rattle.std.proofs.lemmas.Bool.{eqb-true, leb-true, ltb-false, or_parts}
 use Rattle.records.specs.declared.fault.RecordFault.{RecordFault}
 use Rattle.records.specs.declared.frames.Frame.{Frame}
 use Rattle.book.specs.declared.answers.Entered.{Entered as Entry}
@@ -13,22 +13,23 @@ use Rattle.book.specs.declared.answers.Status.{Status}
 use Rattle.book.specs.declared.answers.Status.TheVariants.{Follow, NoFollow, NoFrame}
 use Rattle.book.specs.Told.{status_number}
 use Rattle.fields.specs.declared.parts.Misfit.{Misfit}
-use Rattle.fields.specs.declared.reader.RawFrame.{RawFrame}
+use Rattle.fields.specs.declared.value.RawFrame.{RawFrame}
 use Rattle.fields.specs.Reading.{Rest, byte_at, half_at, word_at, frame_at, end_at, skipped}
 use Rattle.seals.specs.Fletcher.{is_sealed}
 use Rattle.requests.specs.declared.faults.TelegramFault.{TelegramFault}
 use Rattle.requests.specs.declared.faults.TelegramFault.TheVariants.{Length, Seal, NoBuffer, OtherKind}
-use Rattle.requests.specs.Parsing.{fields_of}
+use Rattle.requests.specs.Parsing.{after, fields_of}
 use Rattle.replies.specs.Layout.{byte_field, half_field, word_field, head_bytes, frame_bytes, bit, called_number, entered_fields}
 use Rattle.replies.specs.Fits.{ReadingFits, FrameFits, EnteredFits}
 use Rattle.reading_end.specs.declared.reply.Reply.{Reply}
-use Rattle.reading_end.specs.declared.reply.Reply.TheVariants.{Status as Lone, Entered, Read}
+use Rattle.reading_end.specs.declared.reply.Reply.TheVariants.{Done, Refused, Entered, Read}
 use Rattle.reading_end.specs.Layouts.{then, next, if_ok, frames_at, frames_fault, is_refusal_number, count_fits, called_of, by_status, entered_at, reading_at, reply_at, formed}
 use Rattle.reading_end.specs.Frames.{framed, record_of, frame_step, frame_then, next_frame_of, consed, records_at, fits_row}
-use Rattle.reading_end.specs.Replies.{frames_of, with_frames, brought, told_at, if_intact, reply_of}
-use Rattle.reading_end.specs.Laws.{StandsAlone, Again, AllAgain, Bytes, Unread, unread, Laid, Taken, LayoutsExact}
+use Rattle.reading_end.specs.Replies.{frames_of, with_frames, brought, told_at, reply_of}
+use Rattle.reading_end.specs.Laws.{Again, AllAgain, Bytes, Unread, unread, Laid, Taken, LayoutsExact}
+use Rattle.replies.proofs.Writing.{frames_length}
 use Rattle.reading_end.proofs.Storing.{more}
-use Rattle.reading_end.proofs.Whole.{reply_told, status_told, entered_told, read_told, after_head, frames_length}
+use Rattle.reading_end.proofs.Whole.{reply_told, done_told, refused_told, entered_told, read_told, after_head}
 use Rattle.reading_end.proofs.Taking.{met, byte_took, half_took, word_took, as_unread, frame_took}
 
 -- an answer comes only where each step before it went well
@@ -56,7 +57,7 @@ cond_took true x y z e = inl (refl, e)
 cond_took false x y z e = inr (refl, e)
 
 -- length and seal, and then what the fields tell
-intact_took : {X : Type 0} (b c : Bool) (r : Result X TelegramFault) (p : X) → if_intact (cond b (Err Length) (cond c (Ok tt) (Err Seal))) r ≡ Ok p → (b ≡ false) × (c ≡ true) × (r ≡ Ok p)
+intact_took : {X : Type 0} (b c : Bool) (r : Result X TelegramFault) (p : X) → after (after (cond b (Err Length) (Ok tt)) (cond c (Ok tt) (Err Seal))) r ≡ Ok p → (b ≡ false) × (c ≡ true) × (r ≡ Ok p)
 intact_took true c r p e = absurd (let z : ◌≡◌ {A = ℕ} 0 1 = cc in omega arith)
 intact_took false true r p e = (refl, refl, e)
 intact_took false false r p e = absurd (let z : ◌≡◌ {A = ℕ} 0 1 = cc in omega arith)
@@ -74,14 +75,12 @@ brought_took kind reads room s (Ok y) x fs e =
     (ap Ok p.0, ap (λ z. frames_of kind reads room z s) (sym p.0) ∙ p.1)
 brought_took kind reads room s (Err m) x fs e = absurd (let z : ◌≡◌ {A = ℕ} 0 1 = cc in omega arith)
 
--- which of the three ways a status leads
+-- which of the four ways a status leads
 data Way (n : ℕ) (s : Rest) (x : Reply) : Type 0 where
   reads_on : (status : Status) → n ≡ status_number status → reading_at status s ≡ Ok x → Way n s x
   enters : n ≡ 0 → entered_at s ≡ Ok x → Way n s x
-  stands : StandsAlone n → if_ok (end_at s) (Lone n) ≡ Ok x → Way n s x
-
-alone_took : (n : ℕ) → (eqb n 0 || is_refusal_number n) ≡ true → StandsAlone n
-alone_took n e = elim (or_cases (eqb n 0) (is_refusal_number n) e) [ inl a ↦ inl (eqb-true n 0 a) | inr b ↦ inr b ]
+  ends : n ≡ 0 → s.0 ≡ [] → Done ≡ x → Way n s x
+  refuses : is_refusal_number n ≡ true → if_ok (end_at s) (Refused n) ≡ Ok x → Way n s x
 
 way : (n : ℕ) (s : Rest) (at : ℕ) (x : Reply) → by_status n s at ≡ Ok x → Way n s x
 way n s at x e = elim (cond_took (eqb n 1) _ _ (Ok x) e) [
@@ -90,9 +89,12 @@ way n s at x e = elim (cond_took (eqb n 1) _ _ (Ok x) e) [
     | inl b ↦ reads_on NoFollow (eqb-true n 2 b.0) b.1
     | inr b ↦ elim (cond_took (eqb n 3) _ _ (Ok x) b.1) [
       | inl c ↦ reads_on NoFrame (eqb-true n 3 c.0) c.1
-      | inr c ↦ elim (cond_took (eqb n 0 && not (eqb (length s.0) 0)) _ _ (Ok x) c.1) [
-        | inl d ↦ enters (eqb-true n 0 (and_parts (eqb n 0) (not (eqb (length s.0) 0)) d.0).0) d.1
-        | inr d ↦ let m = met (eqb n 0 || is_refusal_number n) (if_ok (end_at s) (Lone n)) (record { at = at }) x d.1 in stands (alone_took n m.0) m.1
+      | inr c ↦ elim (cond_took (eqb n 0) _ _ (Ok x) c.1) [
+        | inl d ↦ elim (cond_took (eqb (length s.0) 0) _ _ (Ok x) d.1) [
+          | inl e ↦ ends (eqb-true n 0 d.0) (none_left s.0 (eqb-true _ _ e.0)) (cc (e.1))
+          | inr e ↦ enters (eqb-true n 0 d.0) e.1
+        ]
+        | inr d ↦ let m = met (is_refusal_number n) (if_ok (end_at s) (Refused n)) (record { at = at }) x d.1 in refuses m.0 m.1
       ]
     ]
   ]
@@ -329,10 +331,13 @@ module _ {R : Type 0} (kind : ℕ) (reads : List ℕ → Result R RecordFault) (
       let t = entered_took s x h e in
       let all = cut ∙ ap (λ k. half_field 0x10 k ++ s.0) is ∙ t.cut in
       subst (λ y. frames_of kind reads room y (bs, 0) ≡ Ok fs → Laid kind reads bs room y fs) t.is (λ none. (all, t.fits, none_brought none)) f
-  laid_by n bs s x cut h (stands alone e) f =
-      let i = if_took (end_at s) (Lone n) x e in
+  laid_by n bs s x cut h (ends is none e) f =
+      let all = cut ∙ (λ i. half_field 0x10 (is i) ++ none i) in
+      subst (λ y. frames_of kind reads room y (bs, 0) ≡ Ok fs → Laid kind reads bs room y fs) e (λ none. (all, none_brought none)) f
+  laid_by n bs s x cut h (refuses is e) f =
+      let i = if_took (end_at s) (Refused n) x e in
       let all = cut ∙ ap (λ l. half_field 0x10 n ++ l) (end_took s tt i.0) in
-      subst (λ y. frames_of kind reads room y (bs, 0) ≡ Ok fs → Laid kind reads bs room y fs) i.1 (λ none. (all, alone, none_brought none)) f
+      subst (λ y. frames_of kind reads room y (bs, 0) ≡ Ok fs → Laid kind reads bs room y fs) i.1 (λ none. (all, is, none_brought none)) f
 
   laid_took : (bs : List ℕ) (x : Reply) → Bytes bs → told_at kind reads room (bs, 0) ≡ Ok (x, fs) → Laid kind reads bs room x fs
   laid_took bs x h e =
@@ -342,7 +347,8 @@ module _ {R : Type 0} (kind : ℕ) (reads : List ℕ → Result R RecordFault) (
       laid_by p.0.0 bs p.0.1 x w.cut w.bytes (way p.0.0 p.0.1 0 x p.2) b.1
 
   laid_told : (fields : List ℕ) (x : Reply) → Laid kind reads fields room x fs → told_at kind reads room (fields, 0) ≡ Ok (x, fs)
-  laid_told fields (Lone n) l = ap (λ k. told_at kind reads room (k, 0)) l.0 ∙ status_told kind reads n room l.1 ∙ ap (λ k. Ok (Lone n, k)) (sym l.2)
+  laid_told fields Done l = ap (λ k. told_at kind reads room (k, 0)) l.0 ∙ done_told kind reads room ∙ ap (λ k. Ok (Done, k)) (sym l.1)
+  laid_told fields (Refused n) l = ap (λ k. told_at kind reads room (k, 0)) l.0 ∙ refused_told kind reads n room l.1 ∙ ap (λ k. Ok (Refused n, k)) (sym l.2)
   laid_told fields (Entered e) l = ap (λ k. told_at kind reads room (k, 0)) l.0 ∙ entered_told kind reads e room l.1 ∙ ap (λ k. Ok (Entered e, k)) (sym l.2)
   laid_told fields (Read g) l =
       let d = l.1 in

@@ -4,8 +4,9 @@ use Rattle.std.proofs.ByRecursion.{All-take, All-drop}
 use Rattle.std.proofs.lemmas.List.{length-drop, length-take-le, take-append-drop, drop-drop, drop_all}
 use Rattle.std.proofs.lemmas.Bool.{eqb-true}
 use Rattle.fields.specs.Layout.{Told, parse_field}
-use Rattle.fields.specs.Reading.{Rest, big, pick, sized, sized_frame, frame_of, words_of, value_at, byte_at, half_at, word_at, frame_at}
-use Rattle.fields.specs.declared.reader.RawFrame.{RawFrame}
+use Rattle.fields.specs.Values.{big, frame_of, words_of}
+use Rattle.fields.specs.Reading.{Rest, pick, read_as, value_at, byte_at, half_at, word_at, frame_at}
+use Rattle.fields.specs.declared.value.RawFrame.{RawFrame}
 use Rattle.fields.proofs.Parsing.{took}
 use Rattle.records.specs.Laws.{FourWords}
 use Rattle.replies.specs.Layout.{half, word, words, byte_field, half_field, word_field, frame_bytes}
@@ -52,12 +53,13 @@ value_took tag at bs v s h e =
     let all = subst Bytes cut h in
     record { high = t.0; low = t.1; cut = cut; long = sym (ap length p.3) ∙ t.3; bytes = bytes_parts v s.0 all.1.1.1 }
 
-sized_took : (n at : ℕ) (o : Result (List ℕ × Rest) ℕ) (k : ℕ) (s : Rest) → sized n at o ≡ Ok (k, s) → (v : List ℕ) × (o ≡ Ok (v, s)) × (length v ≡ n) × (big v ≡ k)
-sized_took n at (Ok p) k s e =
-    let m = met (eqb (length p.0) n) _ at (k, s) e in
-    let q : (big p.0, p.1) ≡ (k, s) = cc in
-    (p.0, ap (λ (z : ℕ × Rest). Ok (p.0, z.1)) q, eqb-true _ _ m.0, ap (λ (z : ℕ × Rest). z.0) q)
-sized_took n at (Err x) k s e = absurd (let z : ◌≡◌ {A = ℕ} 0 1 = cc in omega arith)
+-- what a value says was said by so many bytes
+said_by : {X : Type 0} (n : ℕ) (says : List ℕ → X) (at : ℕ) (o : Result (List ℕ × Rest) ℕ) (x : X) (s : Rest) → read_as n says at o ≡ Ok (x, s) → (v : List ℕ) × (o ≡ Ok (v, s)) × (length v ≡ n) × (says v ≡ x)
+said_by {X} n says at (Ok p) x s e =
+    let m = met (eqb (length p.0) n) _ at (x, s) e in
+    let q : (says p.0, p.1) ≡ (x, s) = cc in
+    (p.0, ap (λ (z : X × Rest). Ok (p.0, z.1)) q, eqb-true _ _ m.0, ap (λ (z : X × Rest). z.0) q)
+said_by n says at (Err a) x s e = absurd (let z : ◌≡◌ {A = ℕ} 0 1 = cc in omega arith)
 
 -- bytes as a number, and that number's bytes
 byte_bytes : (v : List ℕ) → length v ≡ 1 → Bytes v → (big v ∷ [] ≡ v) × (big v < 256)
@@ -98,21 +100,21 @@ field_cut tag len bs v u rest short w long is =
 
 pub byte_took : (tag at n : ℕ) (bs : List ℕ) (s : Rest) → Bytes bs → byte_at tag (bs, at) ≡ Ok (n, s) → Took bs (byte_field tag n) s.0 n 256
 byte_took tag at n bs s h e =
-    let z = sized_took 1 at (value_at tag (bs, at)) n s e in
+    let z = said_by 1 big at (value_at tag (bs, at)) n s e in
     let w = value_took tag at bs z.0 s h z.1 in
     let b = byte_bytes z.0 z.2 w.bytes.0 in
     record { cut = field_cut tag 1 bs z.0 (n ∷ []) s.0 (omega arith) w z.2 (sym b.0 ∙ ap (λ k. k ∷ []) z.3); small = subst (λ k. k < 256) z.3 b.1; bytes = w.bytes.1 }
 
 pub half_took : (tag at n : ℕ) (bs : List ℕ) (s : Rest) → Bytes bs → half_at tag (bs, at) ≡ Ok (n, s) → Took bs (half_field tag n) s.0 n 65536
 half_took tag at n bs s h e =
-    let z = sized_took 2 at (value_at tag (bs, at)) n s e in
+    let z = said_by 2 big at (value_at tag (bs, at)) n s e in
     let w = value_took tag at bs z.0 s h z.1 in
     let b = half_bytes z.0 z.2 w.bytes.0 in
     record { cut = field_cut tag 2 bs z.0 (half n) s.0 (omega arith) w z.2 (sym b.0 ∙ ap half z.3); small = subst (λ k. k < 65536) z.3 b.1; bytes = w.bytes.1 }
 
 pub word_took : (tag at n : ℕ) (bs : List ℕ) (s : Rest) → Bytes bs → word_at tag (bs, at) ≡ Ok (n, s) → Took bs (word_field tag n) s.0 n 4294967296
 word_took tag at n bs s h e =
-    let z = sized_took 4 at (value_at tag (bs, at)) n s e in
+    let z = said_by 4 big at (value_at tag (bs, at)) n s e in
     let w = value_took tag at bs z.0 s h z.1 in
     let b = word_bytes z.0 z.2 w.bytes.0 in
     record { cut = field_cut tag 4 bs z.0 (word n) s.0 (omega arith) w z.2 (sym b.0 ∙ ap word z.3); small = subst (λ k. k < 4294967296) z.3 b.1; bytes = w.bytes.1 }
@@ -152,13 +154,6 @@ frame_whole (k ∷ r) long h =
       record { time = t.1; position = p.1; words = w.1 },
     )
 
-sized_frame_took : (at : ℕ) (o : Result (List ℕ × Rest) ℕ) (f : RawFrame) (s : Rest) → sized_frame at o ≡ Ok (f, s) → (v : List ℕ) × (o ≡ Ok (v, s)) × (length v ≡ 25) × (frame_of v ≡ f)
-sized_frame_took at (Ok p) f s e =
-    let m = met (eqb (length p.0) 25) _ at (f, s) e in
-    let q : (frame_of p.0, p.1) ≡ (f, s) = cc in
-    (p.0, ap (λ (z : RawFrame × Rest). Ok (p.0, z.1)) q, eqb-true _ _ m.0, ap (λ (z : RawFrame × Rest). z.0) q)
-sized_frame_took at (Err x) f s e = absurd (let z : ◌≡◌ {A = ℕ} 0 1 = cc in omega arith)
-
 pub record FrameTook (bs : List ℕ) (f : RawFrame) (rest : List ℕ) : Type 0 where
   pub cut : bs ≡ frame_bytes f.kind unread (as_unread f) ++ rest
   pub fits : FrameFits unread (as_unread f)
@@ -167,7 +162,7 @@ pub record FrameTook (bs : List ℕ) (f : RawFrame) (rest : List ℕ) : Type 0 w
 pub frame_took : (at : ℕ) (bs : List ℕ) (f : RawFrame) (s : Rest) → Bytes bs → frame_at (bs, at) ≡ Ok (f, s) → FrameTook bs f s.0
 unfolding frame_at
 frame_took at bs f s h e =
-    let z = sized_frame_took at (value_at 0x20 (bs, at)) f s e in
+    let z = said_by 25 frame_of at (value_at 0x20 (bs, at)) f s e in
     let w = value_took 0x20 at bs z.0 s h z.1 in
     let b = frame_whole z.0 z.2 w.bytes.0 in
     record {

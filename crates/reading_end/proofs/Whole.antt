@@ -1,8 +1,8 @@
 -- Whole replies that are written, read again.
-use Rattle.std.proofs.Common.{◌≡◌, ℕ, suc, ◌+◌, ◌-◌, ◌*◌, ◌<◌, ◌≤◌, min, Bool, true, false, eqb, ltb, List, [], ◌∷◌, ◌++◌, map, length, get_or, drop, Ok, Err, Result, sym, refl, ap, ◌∙◌, subst, inl, inr, append_assoc, append-nil, arith}
+use Rattle.std.proofs.Common.{◌≡◌, ℕ, suc, ◌+◌, ◌-◌, ◌*◌, ◌<◌, ◌≤◌, min, Bool, true, false, ltb, List, [], ◌∷◌, ◌++◌, map, length, get_or, drop, Ok, Err, Result, sym, refl, ap, ◌∙◌, append_assoc, append-nil, arith}
 use Rattle.std.specs.List.{flat_map, AllZip, AllByRecursion}
 use Rattle.std.proofs.lemmas.List.{take_at, length-append}
-use Rattle.std.proofs.lemmas.Bool.{cond-true, cond-false, eq-eqb, ne_eqb, le-leb, le-ltb, or_from, or_right, and_left}
+use Rattle.std.proofs.lemmas.Bool.{cond-true, cond-false, eq-eqb, ne_eqb, le-leb, le-ltb, or_from}
 use Rattle.std.proofs.lemmas.Bool.Decides.{nat_tests}
 use Rattle.records.specs.declared.fault.RecordFault.{RecordFault}
 use Rattle.records.specs.declared.frames.Frame.{Frame}
@@ -16,15 +16,16 @@ use Rattle.fields.specs.declared.parts.Misfit.{Misfit}
 use Rattle.fields.specs.Reading.{Rest, skipped}
 use Rattle.seals.specs.Fletcher.{is_sealed, seal_bytes}
 use Rattle.seals.proofs.Closing.{seal_laws}
-use Rattle.requests.specs.Parsing.{fields_of}
+use Rattle.requests.specs.Parsing.{after, seal_checked, fields_of}
 use Rattle.replies.specs.Layout.{head_bytes, frame_bytes, status_fields, entered_fields, read_fields, closed, status_reply, entered_reply, read_reply, bit, called_number}
 use Rattle.replies.specs.Fits.{ReadingFits, FrameFits, EnteredFits}
+use Rattle.replies.proofs.Writing.{frames_length}
 use Rattle.reading_end.specs.declared.reply.Reply.{Reply}
-use Rattle.reading_end.specs.declared.reply.Reply.TheVariants.{Status as Lone, Entered, Read}
+use Rattle.reading_end.specs.declared.reply.Reply.TheVariants.{Done, Refused, Entered, Read}
 use Rattle.reading_end.specs.Layouts.{then, next, if_ok, frames_at, frames_fault, is_refusal_number, count_fits, by_status, reading_at, reply_at, formed}
 use Rattle.reading_end.specs.Frames.{framed, frame_step, frame_then, next_frame_of, consed, records_at, fits_row}
-use Rattle.reading_end.specs.Replies.{with_frames, brought, told_at, if_intact, reply_of}
-use Rattle.reading_end.specs.Laws.{StandsAlone, Again, AllAgain, SameFrame, RepliesBack}
+use Rattle.reading_end.specs.Replies.{with_frames, brought, told_at, reply_of}
+use Rattle.reading_end.specs.Laws.{Again, AllAgain, SameFrame, RepliesBack}
 use Rattle.reading_end.proofs.Storing.{more, whole_fits}
 use Rattle.reading_end.proofs.Back.{byte_back, half_back, word_back, raw, frame_back, called_back}
 
@@ -38,8 +39,9 @@ next_ok k e = ap (λ o. next o k) e
 pub reply_told : {R : Type 0} (kind : ℕ) (reads : List ℕ → Result R RecordFault) (bs : List ℕ) (room : ℕ) → 2 ≤ length bs → length bs ≤ 4096 → is_sealed bs ≡ true
     → reply_of kind reads bs room ≡ told_at kind reads room (fields_of bs, 0)
 reply_told kind reads bs room low high is =
-    ap (λ o. if_intact o (told_at kind reads room (fields_of bs, 0)))
-    (cond-false _ _ _ (or_from (ltb (length bs) 2) (ltb 4096 (length bs)) (le-ltb _ _ low) (le-ltb _ _ high)) ∙ cond-true _ _ _ is)
+    ap (λ o. after (after o (seal_checked bs)) (told_at kind reads room (fields_of bs, 0)))
+    (cond-false _ _ _ (or_from (ltb (length bs) 2) (ltb 4096 (length bs)) (le-ltb _ _ low) (le-ltb _ _ high)))
+    ∙ ap (λ o. after o (told_at kind reads room (fields_of bs, 0))) (cond-true _ _ _ is)
 
 fields_back : (bs : List ℕ) → fields_of (closed bs) ≡ bs
 fields_back bs =
@@ -56,24 +58,26 @@ closed_told kind reads fields room fit =
 refusal_range : (n : ℕ) → is_refusal_number n ≡ true → (10 ≤ n) × (n ≤ 31)
 refusal_range n is = (grind (arith, nat_tests), grind (arith, nat_tests))
 
-by_alone : (n at place : ℕ) → StandsAlone n → by_status n ([], at) place ≡ Ok (Lone n)
-by_alone n at place (inl e) = subst (λ k. by_status k ([], at) place ≡ Ok (Lone k)) (sym e) refl
-by_alone n at place (inr r) =
-    let range = refusal_range n r in
-    let none : eqb n 0 ≡ false = ne_eqb n 0 (omega arith) in
+by_refusal : (n at place : ℕ) → is_refusal_number n ≡ true → by_status n ([], at) place ≡ Ok (Refused n)
+by_refusal n at place is =
+    let range = refusal_range n is in
     cond-false _ _ _ (ne_eqb n 1 (omega arith)) ∙ cond-false _ _ _ (ne_eqb n 2 (omega arith)) ∙ cond-false _ _ _ (ne_eqb n 3 (omega arith))
-    ∙ cond-false _ _ _ (and_left (eqb n 0) false none) ∙ cond-true _ _ _ (or_right (eqb n 0) (is_refusal_number n) r)
+    ∙ cond-false _ _ _ (ne_eqb n 0 (omega arith)) ∙ cond-true _ _ _ is
 
-alone_small : (n : ℕ) → StandsAlone n → n < 65536
-alone_small n (inl e) = omega arith
-alone_small n (inr r) = let range = refusal_range n r in omega arith
+pub done_told : {R : Type 0} (kind : ℕ) (reads : List ℕ → Result R RecordFault) (room : ℕ) → told_at kind reads room (status_fields 0, 0) ≡ Ok (Done, [])
+done_told kind reads room =
+    ap (λ o. brought kind reads room (status_fields 0, 0) (formed o)) (next_ok (λ status t. by_status status t 0) (half_back 0x10 0 0 [] (omega arith) refl))
 
-pub status_told : {R : Type 0} (kind : ℕ) (reads : List ℕ → Result R RecordFault) (n room : ℕ) → StandsAlone n → told_at kind reads room (status_fields n, 0) ≡ Ok (Lone n, [])
-status_told kind reads n room alone =
-    ap (λ o. brought kind reads room (status_fields n, 0) (formed o)) (next_ok _ (half_back 0x10 n 0 [] (alone_small n alone) refl) ∙ by_alone n 5 0 alone)
+pub refused_told : {R : Type 0} (kind : ℕ) (reads : List ℕ → Result R RecordFault) (n room : ℕ) → is_refusal_number n ≡ true → told_at kind reads room (status_fields n, 0) ≡ Ok (Refused n, [])
+refused_told kind reads n room is =
+    let range = refusal_range n is in
+    ap (λ o. brought kind reads room (status_fields n, 0) (formed o)) (next_ok _ (half_back 0x10 n 0 [] (omega arith) refl) ∙ by_refusal n 5 0 is)
 
-pub status_back : {R : Type 0} (kind : ℕ) (reads : List ℕ → Result R RecordFault) (n room : ℕ) → StandsAlone n → reply_of kind reads (status_reply n) room ≡ Ok (Lone n, [])
-status_back kind reads n room alone = closed_told kind reads (status_fields n) room (omega arith) ∙ status_told kind reads n room alone
+pub done_back : {R : Type 0} (kind : ℕ) (reads : List ℕ → Result R RecordFault) (room : ℕ) → reply_of kind reads (status_reply 0) room ≡ Ok (Done, [])
+done_back kind reads room = closed_told kind reads (status_fields 0) room (omega arith) ∙ done_told kind reads room
+
+pub refused_back : {R : Type 0} (kind : ℕ) (reads : List ℕ → Result R RecordFault) (n room : ℕ) → is_refusal_number n ≡ true → reply_of kind reads (status_reply n) room ≡ Ok (Refused n, [])
+refused_back kind reads n room is = closed_told kind reads (status_fields n) room (omega arith) ∙ refused_told kind reads n room is
 
 bit_small : (b : Bool) → bit b ≤ 1
 bit_small true = omega arith
@@ -109,10 +113,6 @@ module _ {R : Type 0} (kind : ℕ) (writes : R → List ℕ) where
       ∙ then_ok _ (frame_back kind writes f (flat_map (frame_bytes kind writes) fs ++ rest) at h.0)
       ∙ then_ok _ (frames_back fs rest (at + 3 + 25) h.1)
       ∙ ap (λ k. Ok (raw kind writes f ∷ map (raw kind writes) fs, (rest, k))) on
-
-  pub frames_length : (fs : List (Frame R)) → length (flat_map (frame_bytes kind writes) fs) ≡ 28 * length fs
-  frames_length [] = refl
-  frames_length (f ∷ fs) = let inner = frames_length fs in omega arith
 
 module _ {R S : Type 0} (kind : ℕ) (reads : List ℕ → Result S RecordFault) (writes : R → List ℕ) where
   next_back : (f : Frame R) (f' : Frame S) (rest : List ℕ) (at : ℕ) → FrameFits writes f → Again reads writes f f' → next_frame_of kind reads (frame_bytes kind writes f ++ rest, at) ≡ Ok (f', (rest, at + 3 + 25))
@@ -210,7 +210,8 @@ again_of reads writes means back (f ∷ fs) =
 
 pub replies_back : {R V : Type 0} (kind : ℕ) (reads : List ℕ → Result R RecordFault) (writes : R → List ℕ) (means : R → V) → ((r : R) → ReadsBack means (reads (writes r)) r) → RepliesBack kind reads writes means
 replies_back kind reads writes means back = record {
-  status = status_back kind reads;
+  done = done_back kind reads;
+  refused = refused_back kind reads;
   entered = entered_back kind reads;
   read = λ g fs room gf ff count is fit.
       let other = again_of reads writes means back fs in

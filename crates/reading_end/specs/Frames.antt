@@ -3,7 +3,7 @@ use Rattle.std.specs.Prelude.{ℕ, zero, suc, cond, List, [], ◌∷◌, ◌++�
 use Rattle.records.specs.declared.fault.RecordFault.{RecordFault}
 use Rattle.records.specs.declared.frames.Frame.{Frame}
 use Rattle.book.specs.declared.fault.BookFault.TheVariants.{Record}
-use Rattle.fields.specs.declared.reader.RawFrame.{RawFrame}
+use Rattle.fields.specs.declared.value.RawFrame.{RawFrame}
 use Rattle.fields.specs.Reading.{Rest, frame_at}
 use Rattle.requests.specs.declared.faults.TelegramFault.{TelegramFault}
 use Rattle.requests.specs.declared.faults.TelegramFault.TheVariants.{NoBuffer, Form, OtherKind, Book}

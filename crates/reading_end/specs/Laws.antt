@@ -1,5 +1,5 @@
 -- Both ends of a telegram: what is written is what is read.
-use Rattle.std.specs.Prelude.{◌≡◌, ℕ, ◌<◌, ◌≤◌, true, ◌⊎◌, ◌↔◌, List, [], ◌∷◌, length, Ok, Result}
+use Rattle.std.specs.Prelude.{◌≡◌, ℕ, ◌<◌, ◌≤◌, true, ◌↔◌, List, [], ◌∷◌, length, Ok, Result}
 use Rattle.std.specs.List.{AllZip, AllByRecursion}
 use Rattle.records.specs.declared.fault.RecordFault.{RecordFault}
 use Rattle.records.specs.declared.frames.Frame.{Frame}
@@ -10,13 +10,9 @@ use Rattle.requests.specs.Parsing.{fields_of}
 use Rattle.replies.specs.Layout.{status_fields, entered_fields, read_fields, status_reply, entered_reply, read_reply}
 use Rattle.replies.specs.Fits.{ReadingFits, FrameFits, EnteredFits}
 use Rattle.reading_end.specs.declared.reply.Reply.{Reply}
-use Rattle.reading_end.specs.declared.reply.Reply.TheVariants.{Status as Lone, Entered, Read}
+use Rattle.reading_end.specs.declared.reply.Reply.TheVariants.{Done, Refused, Entered, Read}
 use Rattle.reading_end.specs.Layouts.{is_refusal_number, count_fits}
 use Rattle.reading_end.specs.Replies.{reply_of}
-
--- the statuses that stand alone: done, or a refusal's number
-abbrev pub StandsAlone : ℕ → Type 0
-StandsAlone n = (n ≡ 0) ⊎ (is_refusal_number n ≡ true)
 
 -- f' is what the words of f read as, at the same time and position
 pub record Again {R S : Type 0} (reads : List ℕ → Result S RecordFault) (writes : R → List ℕ) (f : Frame R) (f' : Frame S) : Type 0 where
@@ -39,8 +35,9 @@ pub record SameFrame {R V : Type 0} (means : R → V) (f f' : Frame R) : Type 0 
 
 -- whatever reply is written reads back as what went in
 pub record RepliesBack {R V : Type 0} (kind : ℕ) (reads : List ℕ → Result R RecordFault) (writes : R → List ℕ) (means : R → V) : Type 0 where
-  -- the lone status
-  pub status : (n room : ℕ) → StandsAlone n → reply_of kind reads (status_reply n) room ≡ Ok (Lone n, [])
+  -- the lone status: done, or a refusal's number
+  pub done : (room : ℕ) → reply_of kind reads (status_reply 0) room ≡ Ok (Done, [])
+  pub refused : (n room : ℕ) → is_refusal_number n ≡ true → reply_of kind reads (status_reply n) room ≡ Ok (Refused n, [])
   -- the entry's answer
   pub entered : (e : Entry) (room : ℕ) → EnteredFits e → reply_of kind reads (entered_reply e) room ≡ Ok (Entered e, [])
   -- the read's answer, with every frame at its time and position and with a record that means the same
@@ -71,7 +68,8 @@ pub record ReadLaid {R : Type 0} (kind : ℕ) (reads : List ℕ → Result R Rec
 
 -- the three layouts
 abbrev pub Laid : {R : Type 0} → ℕ → (List ℕ → Result R RecordFault) → List ℕ → ℕ → Reply → List (Frame R) → Type 0
-Laid kind reads fields room (Lone n) fs = (fields ≡ status_fields n) × StandsAlone n × (fs ≡ [])
+Laid kind reads fields room Done fs = (fields ≡ status_fields 0) × (fs ≡ [])
+Laid kind reads fields room (Refused n) fs = (fields ≡ status_fields n) × (is_refusal_number n ≡ true) × (fs ≡ [])
 Laid kind reads fields room (Entered e) fs = (fields ≡ entered_fields e) × EnteredFits e × (fs ≡ [])
 Laid kind reads fields room (Read g) fs = (us : List Unread) × ReadLaid kind reads fields room g fs us
 

@@ -1,15 +1,15 @@
 -- The three layouts of a reply, as they are read.
-use Rattle.std.specs.Prelude.{ℕ, zero, suc, ◌/◌, ◌%◌, Bool, cond, not, ◌&&◌, ◌||◌, List, [], ◌∷◌, length, Ok, Err, Result, ◌==◌, nat_le, nat_lt}
+use Rattle.std.specs.Prelude.{ℕ, zero, suc, ◌/◌, ◌%◌, Bool, cond, ◌&&◌, ◌||◌, List, [], ◌∷◌, length, Ok, Err, Result, ◌==◌, nat_le}
 use Rattle.book.specs.declared.answers.Status.{Status}
 use Rattle.book.specs.declared.answers.Status.TheVariants.{Follow, NoFollow, NoFrame}
 use Rattle.fields.specs.declared.parts.Misfit.{Misfit}
-use Rattle.fields.specs.declared.reader.RawFrame.{RawFrame}
+use Rattle.fields.specs.declared.value.RawFrame.{RawFrame}
 use Rattle.fields.specs.Reading.{Rest, word_at, half_at, byte_at, frame_at, end_at}
 use Rattle.requests.specs.declared.faults.TelegramFault.{TelegramFault}
-use Rattle.requests.specs.declared.faults.TelegramFault.TheVariants.{Length, Seal, Form}
-use Rattle.seals.specs.Fletcher.{is_sealed}
+use Rattle.requests.specs.declared.faults.TelegramFault.TheVariants.{Form}
+use Rattle.requests.specs.Parsing.{after, length_checked, seal_checked}
 use Rattle.reading_end.specs.declared.reply.Reply.{Reply}
-use Rattle.reading_end.specs.declared.reply.Reply.TheVariants.{Status as Lone, Entered, Read}
+use Rattle.reading_end.specs.declared.reply.Reply.TheVariants.{Done, Refused, Entered, Read}
 
 -- a field, and what comes after it
 abbrev pub then : {X Y : Type 0} → Result (X × Rest) ℕ → (X → Rest → Result Y ℕ) → Result Y ℕ
@@ -64,8 +64,8 @@ reading_at status s =
 abbrev pub by_status : ℕ → Rest → ℕ → Result Reply Misfit
 by_status status s at =
     cond (status == 1) (reading_at Follow s) (cond (status == 2) (reading_at NoFollow s) (cond (status == 3) (reading_at NoFrame s)
-    (cond (status == 0 && not (length s.0 == 0)) (entered_at s)
-    (cond (status == 0 || is_refusal_number status) (if_ok (end_at s) (Lone status)) (Err (record { at = at }))))))
+    (cond (status == 0) (cond (length s.0 == 0) (Ok Done) (entered_at s))
+    (cond (is_refusal_number status) (if_ok (end_at s) (Refused status)) (Err (record { at = at }))))))
 
 abbrev pub reply_at : Rest → Result Reply Misfit
 reply_at s = next (half_at 0x10 s) (λ status t. by_status status t s.1)
@@ -75,4 +75,4 @@ formed (Ok r) = Ok r
 formed (Err m) = Err (Form m.at)
 
 abbrev pub intact_of : List ℕ → Result (Unit {0}) TelegramFault
-intact_of bs = cond (nat_lt (length bs) 2 || nat_lt 4096 (length bs)) (Err Length) (cond (is_sealed bs) (Ok tt) (Err Seal))
+intact_of bs = after (length_checked bs) (seal_checked bs)

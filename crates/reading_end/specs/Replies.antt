@@ -4,9 +4,9 @@ use Rattle.records.specs.declared.fault.RecordFault.{RecordFault}
 use Rattle.records.specs.declared.frames.Frame.{Frame}
 use Rattle.fields.specs.Reading.{Rest, skipped}
 use Rattle.requests.specs.declared.faults.TelegramFault.{TelegramFault}
-use Rattle.requests.specs.Parsing.{fields_of}
+use Rattle.requests.specs.Parsing.{after, fields_of}
 use Rattle.reading_end.specs.declared.reply.Reply.{Reply}
-use Rattle.reading_end.specs.declared.reply.Reply.TheVariants.{Status as Lone, Entered, Read}
+use Rattle.reading_end.specs.declared.reply.Reply.TheVariants.{Done, Refused, Entered, Read}
 use Rattle.reading_end.specs.Layouts.{reply_at, formed, intact_of}
 use Rattle.reading_end.specs.Frames.{records_at, fits_row}
 
@@ -14,7 +14,8 @@ use Rattle.reading_end.specs.Frames.{records_at, fits_row}
 abbrev pub frames_of : {R : Type 0} → ℕ → (List ℕ → Result R RecordFault) → ℕ → Reply → Rest → Result (List (Frame R)) TelegramFault
 frames_of kind reads room (Read g) s = fits_row g.count room (records_at kind reads g.count (skipped 52 s))
 frames_of kind reads room (Entered e) s = Ok []
-frames_of kind reads room (Lone n) s = Ok []
+frames_of kind reads room Done s = Ok []
+frames_of kind reads room (Refused n) s = Ok []
 
 abbrev pub with_frames : {R : Type 0} → Reply → Result (List (Frame R)) TelegramFault → Result (Reply × List (Frame R)) TelegramFault
 with_frames reply (Ok fs) = Ok (reply, fs)
@@ -28,13 +29,9 @@ brought kind reads room s (Err e) = Err e
 abbrev pub told_at : {R : Type 0} → ℕ → (List ℕ → Result R RecordFault) → ℕ → Rest → Result (Reply × List (Frame R)) TelegramFault
 told_at kind reads room s = brought kind reads room s (formed (reply_at s))
 
-abbrev pub if_intact : {X : Type 0} → Result (Unit {0}) TelegramFault → Result X TelegramFault → Result X TelegramFault
-if_intact (Ok u) r = r
-if_intact (Err e) r = Err e
-
 -- before them length and seal
 abbrev pub reply_of : {R : Type 0} → ℕ → (List ℕ → Result R RecordFault) → List ℕ → ℕ → Result (Reply × List (Frame R)) TelegramFault
-reply_of kind reads bs room = if_intact (intact_of bs) (told_at kind reads room (fields_of bs, 0))
+reply_of kind reads bs room = after (intact_of bs) (told_at kind reads room (fields_of bs, 0))
 
 abbrev pub answer_of : {R : Type 0} → Result (Reply × List (Frame R)) TelegramFault → Result Reply TelegramFault
 answer_of (Ok p) = Ok p.0

@@ -1,20 +1,20 @@
 // The three layouts of a reply.
 ghost use Rattle.std.specs.Prelude.{◌≡◌};
 ghost use Rattle.fields.specs.Reading.{rest_of};
-ghost use Rattle.reading_end.specs.Layouts.{frames_at, frames_fault, is_refusal_number, count_fits, called_of, entered_at, reading_at, reply_at, intact_of, formed};
+ghost use Rattle.reading_end.specs.Layouts.{frames_at, frames_fault, is_refusal_number, count_fits, called_of, entered_at, reading_at, reply_at, intact_of};
 
 use crate::Reply;
 use book::{Entered, Reading, Status};
-use fields::{Misfit, Reader};
-use requests::TelegramFault;
-use seals::sealed;
+use fields::{Misfit, RawFrame, Reader, Tag};
+use requests::{TelegramFault, check_length, check_seal};
 
-// As many frames as the count says, and then nothing.
+// As many frames as the count says, and then nothing. The walk stands here and twice with the frames' records: as
+// one function over a closure, no clause would say what the closure has read.
 fn frames_form(mut fields: Reader, count: u16) -> Result<(), Misfit>
     ensures { result ≡ frames_fault (frames_at count (rest_of fields.entry)) }
 {
-    for i in 0..count {
-        fields.frame()?;
+    for _ in 0..count {
+        fields.read::<RawFrame>(Tag::Frame)?;
     }
     fields.end()
 }
@@ -23,7 +23,7 @@ fn frames_form(mut fields: Reader, count: u16) -> Result<(), Misfit>
 fn is_refusal(status: u16) -> bool
     ensures { result ≡ is_refusal_number status }
 {
-    status >= 10 && status <= 17 || status >= 20 && status <= 27 || status == 30 || status == 31
+    matches!(status, 10..=17 | 20..=27 | 30 | 31)
 }
 
 // With "no frame given" none comes, else 1 to 144.
@@ -32,28 +32,23 @@ fn count_fits(status: Status, count: u16) -> bool
 {
     match status {
         Status::NoFrame => count == 0,
-        _ => count >= 1 && count <= 144,
+        Status::Follow | Status::NoFollow => (1..=144).contains(&count),
     }
 }
 
 fn called_of(number: u8) -> [bool; 4]
     ensures { result ≡ called_of number }
 {
-    [
-        number % 2 == 1,
-        number / 2 % 2 == 1,
-        number / 4 % 2 == 1,
-        number / 8 % 2 == 1,
-    ]
+    [number, number / 2, number / 4, number / 8].map(|n| n % 2 == 1)
 }
 
 // An entry's reply, after its status.
 fn entered(mut fields: Reader) -> Result<Reply, Misfit>
     ensures { result ≡ entered_at (rest_of fields.entry) }
 {
-    let position = fields.word(0x14)?;
+    let position = fields.read(Tag::TillPosition)?;
     let at = fields.offset();
-    let called = fields.byte(0x18)?;
+    let called = fields.read(Tag::Called)?;
     if called > 15 {
         return Err(Misfit { at });
     }
@@ -68,14 +63,14 @@ fn entered(mut fields: Reader) -> Result<Reply, Misfit>
 fn reading(status: Status, mut fields: Reader) -> Result<Reply, Misfit>
     ensures { result ≡ reading_at status (rest_of fields.entry) }
 {
-    let from_time = fields.word(0x11)?;
-    let from_position = fields.word(0x12)?;
-    let till_time = fields.word(0x13)?;
-    let till_position = fields.word(0x14)?;
-    let missed = fields.word(0x15)?;
-    let version = fields.word(0x16)?;
+    let from_time = fields.read(Tag::FromTime)?;
+    let from_position = fields.read(Tag::FromPosition)?;
+    let till_time = fields.read(Tag::TillTime)?;
+    let till_position = fields.read(Tag::TillPosition)?;
+    let missed = fields.read(Tag::Missed)?;
+    let version = fields.read(Tag::Version)?;
     let at = fields.offset();
-    let count = fields.half(0x17)?;
+    let count = fields.read(Tag::Count)?;
     if !count_fits(status, count) {
         return Err(Misfit { at });
     }
@@ -91,19 +86,20 @@ fn reading(status: Status, mut fields: Reader) -> Result<Reply, Misfit>
 }
 
 // A lone status, an entry's reply or a read's.
-fn layout(mut fields: Reader) -> Result<Reply, Misfit>
+pub fn layout(mut fields: Reader) -> Result<Reply, Misfit>
     ensures { result ≡ reply_at (rest_of fields.entry) }
 {
     let at = fields.offset();
-    let status = fields.half(0x10)?;
-    match status {
-        1 => reading(Status::Follow, fields),
-        2 => reading(Status::NoFollow, fields),
-        3 => reading(Status::NoFrame, fields),
-        0 if !fields.is_done() => entered(fields),
-        _ if status == 0 || is_refusal(status) => {
+    let number: u16 = fields.read(Tag::Status)?;
+    if let Ok(status) = Status::try_from(number) {
+        return reading(status, fields);
+    }
+    match number {
+        0 if fields.is_done() => Ok(Reply::Done),
+        0 => entered(fields),
+        _ if is_refusal(number) => {
             fields.end()?;
-            Ok(Reply::Status(status))
+            Ok(Reply::Refused(number))
         }
         _ => Err(Misfit { at }),
     }
@@ -113,18 +109,6 @@ fn layout(mut fields: Reader) -> Result<Reply, Misfit>
 pub fn intact(bytes: &[u8]) -> Result<(), TelegramFault>
     ensures { result ≡ intact_of bytes.now }
 {
-    let length = bytes.len();
-    if length < 2 || length > 4096 {
-        return Err(TelegramFault::Length);
-    }
-    if !sealed(bytes) {
-        return Err(TelegramFault::Seal);
-    }
-    Ok(())
-}
-
-pub fn form(fields: Reader) -> Result<Reply, TelegramFault>
-    ensures { result ≡ formed (reply_at (rest_of fields.entry)) }
-{
-    Ok(layout(fields)?)
+    check_length(bytes)?;
+    check_seal(bytes)
 }

@@ -1,10 +1,12 @@
 // What a reply says.
 use book::{Entered, Reading};
 
-#[derive(Clone, Copy)]
+#[derive(Clone, Copy, PartialEq, Eq, Debug)]
 pub enum Reply {
-    // a call that answers nothing more, or a refusal's number
-    Status(u16),
+    // an accepted call that answers nothing more
+    Done,
+    // of a refusal the wire carries no more than its number, one of four layers' together
+    Refused(u16),
     Entered(Entered),
     // the frames themselves come after it
     Read(Reading),

@@ -1,17 +1,11 @@
 -- Replies as lists of bytes: their layouts, as they are written.
-use Rattle.std.specs.Prelude.{◌≡◌, ℕ, ◌+◌, ◌*◌, ◌/◌, ◌%◌, ◌≤◌, Bool, true, false, cond, List, [], ◌∷◌, ◌++◌, length, take, drop, Some, None, Option, nat_le, slice_index, slice_index_or}
+use Rattle.std.specs.Prelude.{◌≡◌, ℕ, ◌+◌, ◌*◌, ◌/◌, ◌%◌, Bool, true, false, cond, List, [], ◌∷◌, ◌++◌, length, drop, Some, None, Option, nat_le, slice_index, slice_index_or}
 use Rattle.std.specs.List.{flat_map}
 use Rattle.records.specs.declared.frames.Frame.{Frame}
 use Rattle.book.specs.declared.answers.Entered.{Entered}
 use Rattle.book.specs.declared.answers.Reading.{Reading}
 use Rattle.book.specs.Told.{status_number}
 use Rattle.seals.specs.Fletcher.{seal_bytes}
-
--- `after` is `before` with `new` written from `first` up to `end`
-pub record Wrote (before after : List ℕ) (first end : ℕ) (new : List ℕ) : Type 0 where
-  pub front : take end after ≡ take first before ++ new
-  pub back : drop end after ≡ drop end before
-  pub order : first ≤ end
 
 -- numbers of two and four bytes, high byte first
 abbrev pub half : ℕ → List ℕ

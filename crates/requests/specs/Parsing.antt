@@ -72,17 +72,24 @@ fields_of bs = take (length bs - 2) bs
 abbrev pub named_at : Rest → Result Request TelegramFault
 named_at s = then (half_at 1 s) (λ m s. method_at m s)
 
-abbrev pub intact_of : List ℕ → ℕ → Result (Unit {0}) TelegramFault
-intact_of bs room = cond (nat_lt (length bs) 2 || nat_lt 4096 (length bs)) (Err Length) (cond (nat_lt room 82) (Err NoBuffer) (cond (is_sealed bs) (Ok tt) (Err Seal)))
+abbrev pub length_checked : List ℕ → Result (Unit {0}) TelegramFault
+length_checked bs = cond (nat_lt (length bs) 2 || nat_lt 4096 (length bs)) (Err Length) (Ok tt)
 
-abbrev pub after : Result (Unit {0}) TelegramFault → Result Request TelegramFault → Result Request TelegramFault
+abbrev pub seal_checked : List ℕ → Result (Unit {0}) TelegramFault
+seal_checked bs = cond (is_sealed bs) (Ok tt) (Err Seal)
+
+-- what comes of a check and of what is done after it
+abbrev pub after : {X : Type 0} → Result (Unit {0}) TelegramFault → Result X TelegramFault → Result X TelegramFault
 after (Ok u) r = r
 after (Err f) r = Err f
+
+abbrev pub intact_of : List ℕ → ℕ → Result (Unit {0}) TelegramFault
+intact_of bs room = after (length_checked bs) (cond (nat_lt room 82) (Err NoBuffer) (seal_checked bs))
 
 abbrev pub request_of : List ℕ → ℕ → Result Request TelegramFault
 request_of bs room = after (intact_of bs room) (ranged (named_at (fields_of bs, 0)))
 
--- worked telegrams: stop, a wrong seal, no method, a missing field
+-- worked telegrams: stop, a wrong seal, no method field
 abbrev pub WorkedRequests : Type 0
 WorkedRequests =
     (request_of (0x01 ∷ 0x00 ∷ 0x02 ∷ 0x00 ∷ 0x07 ∷ 0xe3 ∷ 0x12 ∷ []) 82 ≡ Ok Stop)

@@ -6,7 +6,7 @@ ghost use Rattle.requests.specs.Faults.{fault_number, fault_layer};
 use book::BookFault;
 use fields::Misfit;
 
-#[derive(Clone, Copy)]
+#[derive(Clone, Copy, PartialEq, Eq, Debug)]
 pub enum TelegramFault {
     // under 2 or over 4,096 bytes
     Length,
@@ -24,7 +24,7 @@ pub enum TelegramFault {
 }
 
 // The layer that a refusal comes from.
-#[derive(Clone, Copy)]
+#[derive(Clone, Copy, PartialEq, Eq, Debug)]
 pub enum Layer {
     Telegram,
     Book,
@@ -36,6 +36,7 @@ impl TelegramFault {
     pub fn number(self) -> u16
         ensures { result ≡ fault_number self }
     {
+        // two cases carry more, so no cast tells the number
         match self {
             TelegramFault::Length => 11,
             TelegramFault::NoBuffer => 10,

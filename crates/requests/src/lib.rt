@@ -4,10 +4,12 @@
 // is carried out.
 #![tactic(auto)]
 
+mod checks;
 mod faults;
 mod naming;
 mod parsing;
 
+pub use checks::{check_length, check_seal};
 pub use faults::{Layer, TelegramFault};
 pub use naming::Request;
 pub use parsing::{read_request, worked_requests};

@@ -1,5 +1,5 @@
 // The call that a telegram names.
-#[derive(Clone, Copy)]
+#[derive(Clone, Copy, PartialEq, Eq, Debug)]
 pub enum Request {
     Since {
         mark: (u32, u32),

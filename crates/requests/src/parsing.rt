@@ -3,17 +3,16 @@ ghost use Rattle.std.specs.Prelude.{◌≡◌};
 ghost use Rattle.fields.specs.Reading.{rest_of};
 ghost use Rattle.requests.specs.Parsing.{since_at, span_at, listen_at, release_at, enter_at, alone_at, method_at, named_at, range_fault, intact_of, ranged, request_of, WorkedRequests};
 
-use crate::{Request, TelegramFault};
+use crate::{Request, TelegramFault, check_length, check_seal};
 use book::BookFault;
-use fields::Reader;
-use seals::sealed;
+use fields::{Reader, Tag};
 
 fn since(mut fields: Reader) -> Result<Request, TelegramFault>
     ensures { result ≡ since_at (rest_of fields.entry) }
 {
-    let time = fields.word(2)?;
-    let position = fields.word(3)?;
-    let limit = fields.half(4)?;
+    let time = fields.read(Tag::Time)?;
+    let position = fields.read(Tag::Position)?;
+    let limit = fields.read(Tag::Limit)?;
     fields.end()?;
     Ok(Request::Since {
         mark: (time, position),
@@ -24,9 +23,9 @@ fn since(mut fields: Reader) -> Result<Request, TelegramFault>
 fn span(mut fields: Reader) -> Result<Request, TelegramFault>
     ensures { result ≡ span_at (rest_of fields.entry) }
 {
-    let first = fields.word(2)?;
-    let limit = fields.half(4)?;
-    let last = fields.word(7)?;
+    let first = fields.read(Tag::Time)?;
+    let limit = fields.read(Tag::Limit)?;
+    let last = fields.read(Tag::LastTime)?;
     fields.end()?;
     Ok(Request::Span { first, last, limit })
 }
@@ -34,10 +33,10 @@ fn span(mut fields: Reader) -> Result<Request, TelegramFault>
 fn listen(mut fields: Reader) -> Result<Request, TelegramFault>
     ensures { result ≡ listen_at (rest_of fields.entry) }
 {
-    let time = fields.word(2)?;
-    let position = fields.word(3)?;
-    let fill = fields.byte(5)?;
-    let party = fields.byte(6)?;
+    let time = fields.read(Tag::Time)?;
+    let position = fields.read(Tag::Position)?;
+    let fill = fields.read(Tag::FillLevel)?;
+    let party = fields.read(Tag::Party)?;
     fields.end()?;
     Ok(Request::Listen {
         party,
@@ -49,7 +48,7 @@ fn listen(mut fields: Reader) -> Result<Request, TelegramFault>
 fn release(mut fields: Reader) -> Result<Request, TelegramFault>
     ensures { result ≡ release_at (rest_of fields.entry) }
 {
-    let position = fields.word(3)?;
+    let position = fields.read(Tag::Position)?;
     fields.end()?;
     Ok(Request::Release { position })
 }
@@ -57,8 +56,8 @@ fn release(mut fields: Reader) -> Result<Request, TelegramFault>
 fn enter(mut fields: Reader) -> Result<Request, TelegramFault>
     ensures { result ≡ enter_at (rest_of fields.entry) }
 {
-    let time = fields.word(2)?;
-    let words = fields.words(8)?;
+    let time = fields.read(Tag::Time)?;
+    let words = fields.read(Tag::Words)?;
     fields.end()?;
     Ok(Request::Enter { time, words })
 }
@@ -70,7 +69,8 @@ fn alone(fields: Reader, request: Request) -> Result<Request, TelegramFault>
     Ok(request)
 }
 
-// The methods, each with its fields in their order.
+// The methods, each with its fields in their order. Their numbers are read here and nowhere else, so an
+// enum of methods would only be this list a second time.
 fn method(number: u16, fields: Reader) -> Result<Request, TelegramFault>
     ensures { result ≡ method_at number (rest_of fields.entry) }
 {
@@ -92,10 +92,10 @@ fn in_range(request: &Request) -> Result<(), BookFault>
     ensures { result ≡ range_fault request.now }
 {
     match request {
-        Request::Since { limit, .. } | Request::Span { limit, .. } if *limit < 1 || *limit > 144 =>
+        Request::Since { limit, .. } | Request::Span { limit, .. } if !(1..=144).contains(limit) =>
             Err(BookFault::ParamInvalid),
         Request::Span { first, last, .. } if last < first => Err(BookFault::IntervalInvalid),
-        Request::Listen { party, .. } if *party < 1 || *party > 4 => Err(BookFault::ParamInvalid),
+        Request::Listen { party, .. } if !(1..=4).contains(party) => Err(BookFault::ParamInvalid),
         _ => Ok(()),
     }
 }
@@ -104,23 +104,17 @@ fn in_range(request: &Request) -> Result<(), BookFault>
 fn intact(telegram: &[u8], room: usize) -> Result<(), TelegramFault>
     ensures { result ≡ intact_of telegram.now room }
 {
-    let length = telegram.len();
-    if length < 2 || length > 4096 {
-        return Err(TelegramFault::Length);
-    }
+    check_length(telegram)?;
     if room < 82 {
         return Err(TelegramFault::NoBuffer);
     }
-    if !sealed(telegram) {
-        return Err(TelegramFault::Seal);
-    }
-    Ok(())
+    check_seal(telegram)
 }
 
 fn named(mut fields: Reader) -> Result<Request, TelegramFault>
     ensures { result ≡ named_at (rest_of fields.entry) }
 {
-    let number = fields.half(1)?;
+    let number = fields.read(Tag::Method)?;
     method(number, fields)
 }
 
@@ -132,12 +126,13 @@ fn read(fields: Reader) -> Result<Request, TelegramFault>
     Ok(request)
 }
 
-// The call that a telegram names, where the reply buffer has room for so many bytes.
+// The call that a telegram names, where the reply buffer has room for so many bytes. The seal is cut off by
+// length, which has been looked at then; a pattern would ask for a case that never comes.
 pub fn read_request(telegram: &[u8], room: usize) -> Result<Request, TelegramFault>
     ensures { result ≡ request_of telegram.now room }
 {
     intact(telegram, room)?;
-    read(Reader::new(&telegram[0..telegram.len() - 2]))
+    read(Reader::new(&telegram[..telegram.len() - 2]))
 }
 
 // Three worked telegrams.

@@ -1,12 +1,12 @@
-use Rattle.std.proofs.Common.{ap, arith}
-use Rattle.replies.specs.Layout.{byte_field}
-use Rattle.replies.proofs.Writing.{wrote_then, wrote_as, finished}
+use Rattle.std.proofs.Common.{◌∷◌, [], refl, ap, ◌∙◌, arith, rules, ◌≡◌}
+use Rattle.replies.proofs.Writing.{puts_then, puts_field, finished}
 use Rattle.replies.proofs.write_entered.Goals as goal
 
-pub returns : goal.returns
-returns c =
+pub returns-clause-bytes : goal.returns-clause-bytes
+returns-clause-bytes c =
     let fields =
-    wrote_then c.put_half-at.ensures.wrote
-    (wrote_then c.put_word-at.ensures.wrote (wrote_as (ap (byte_field 0x18) c.called_byte.ensures.value) c.put_byte-end.ensures.wrote)) in
-    let all = finished 18 fields c.close.ensures.wrote (omega arith) (omega arith) in
-    record { length = all.0; bytes = all.1; fits = record { position = omega arith; parties = c.called_byte.ensures.parties } }
+    puts_then (puts_field c.to_be_bytes.ensures c.field.ensures)
+    (puts_then (puts_field c.to_be_bytes-2.ensures c.field-2.ensures) (puts_field (ap (λ n. n ∷ []) c.called_byte.ensures.value) c.field-3.ensures)) in
+    let all = finished 18 refl fields c.close.ensures (omega arith) (omega arith) in
+    let link : _ ≡ c.close.new.self.out.now = search rules in
+    link ∙ all.1
