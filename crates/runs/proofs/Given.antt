@@ -1,5 +1,5 @@
 -- The frames of a read, taken from its row again.
-use Rattle.std.proofs.Common.{◌≡◌, ℕ, List, length, take, Some, None, Ok, Err, Option, Result, sym, refl, ap, ◌∙◌, arith, take_at}
+use Rattle.std.proofs.Common.{◌≡◌, ℕ, List, length, take, Some, None, Ok, Err, Option, Result, MatchResult, IsOkAnd, sym, refl, ap, ◌∙◌, arith, take_at}
 use Rattle.records.specs.declared.frames.Frame.{Frame}
 use Rattle.book.specs.declared.answers.Reading.{Reading}
 use Rattle.book.specs.declared.fault.BookFault.{BookFault}
@@ -10,7 +10,8 @@ use Rattle.book.specs.Told.{told, tell, keep, decided, left, verdict}
 use Rattle.book.specs.Reads.{laid}
 use Rattle.runs.specs.declared.asked.Read.{Read}
 use Rattle.runs.specs.declared.asked.Read.TheVariants.{Since, Oldest, Youngest, Span}
-use Rattle.runs.specs.Answers.{as_given, given}
+use Rattle.runs.specs.declared.replies.Accepted.{Accepted}
+use Rattle.runs.specs.Answers.{Answer.gave, answer_of, as_given, given}
 use Rattle.runs.specs.Steps.{read_checks, read_answer, read_gives}
 
 module _ {R : Type 0} (gives row : List (Frame R)) (reading : Reading) (count : reading.count ≡ length gives) where
@@ -24,6 +25,14 @@ module _ {R : Type 0} (gives row : List (Frame R)) (reading : Reading) (count : 
   given_again None (Err fault) after e laid_so = absurd (let z : ◌≡◌ {A = ℕ} 0 1 = cc in omega arith)
   given_again (Some number) (Ok answer) after e laid_so = absurd (let z : ◌≡◌ {A = ℕ} 0 1 = cc in omega arith)
   given_again (Some number) (Err fault) after e laid_so = cc
+
+-- an accepted read is replied to with its frames
+pub replied_with : {R : Type 0} (row : List (Frame R)) (P : Reading → Accepted R → Type 0) (r : Result Reading BookFault) (reply : Result (Accepted R) BookFault)
+    → ((reading : Reading) (answer : Accepted R) → P reading answer → answer_of (Ok answer) ≡ gave reading (take reading.count row))
+    → MatchResult r (λ reading. IsOkAnd reply (P reading)) (λ fault. reply ≡ Err fault) → answer_of reply ≡ as_given (told r) (given r row)
+replied_with row P (Ok reading) (Ok answer) cuts is = cuts reading answer is
+replied_with row P (Ok reading) (Err fault) cuts is = absurd is
+replied_with row P (Err fault) reply cuts is = ap answer_of is
 
 -- the count of a read is the number of frames that it gives
 module _ {R : Type 0} (reads : List ℕ → Result R RecordFault) (s : ListState) (row : List Slot) (room : ℕ) where

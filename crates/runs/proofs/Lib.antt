@@ -1,5 +1,4 @@
 pub mod Given
-pub mod Turns
 pub mod Stores
 pub mod Counts
 pub mod Deeds

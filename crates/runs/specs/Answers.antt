@@ -5,8 +5,8 @@ use Rattle.records.specs.declared.frames.Frame.{Frame}
 use Rattle.book.specs.declared.answers.Entered.{Entered}
 use Rattle.book.specs.declared.answers.Reading.{Reading}
 use Rattle.book.specs.Told.{Told, Told.accepted, Told.refused as was_refused, fault_number}
-use Rattle.runs.specs.declared.replies.Reply.{Reply}
-use Rattle.runs.specs.declared.replies.Reply.TheVariants.{Refused, Done, Entered as DoneEntered, Gave, Key}
+use Rattle.runs.specs.declared.replies.Accepted.{Accepted}
+use Rattle.runs.specs.declared.replies.Accepted.TheVariants.{Done, Entered as DoneEntered, Gave, Key}
 
 pub data Answer (R : Type 0) : Type 0 where
   refused : ℕ → Answer R
@@ -20,12 +20,12 @@ pub data Answer (R : Type 0) : Type 0 where
 
 module _ {R : Type 0} where
   -- the answer that a reply stands for
-  abbrev pub answer_of : Reply R → Answer R
-  answer_of (Refused fault) = refused (fault_number fault)
-  answer_of Done = done
-  answer_of (DoneEntered answer) = entered answer.position answer.called
-  answer_of (Gave reading frames) = gave reading (vec_items frames)
-  answer_of (Key number) = key number
+  abbrev pub answer_of : Result (Accepted R) BookFault → Answer R
+  answer_of (Ok Done) = done
+  answer_of (Ok (DoneEntered answer)) = entered answer.position answer.called
+  answer_of (Ok (Gave reading frames)) = gave reading (vec_items frames)
+  answer_of (Ok (Key number)) = key number
+  answer_of (Err fault) = refused (fault_number fault)
 
   -- the answers that the book's own calls stand for
   abbrev pub as_done : Told (Unit {0}) → Answer R

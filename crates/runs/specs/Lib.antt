@@ -1,5 +1,6 @@
 pub mod Answers
 pub mod Steps
+pub mod Held
 pub mod Histories
 pub mod Kinds
 pub mod Law

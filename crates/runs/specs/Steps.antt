@@ -4,6 +4,7 @@ use Rattle.trays.specs.declared.slots.Slot.{Slot}
 use Rattle.records.specs.declared.fault.RecordFault.{RecordFault}
 use Rattle.records.specs.declared.frames.Frame.{Frame}
 use Rattle.book.specs.declared.answers.Reading.{Reading}
+use Rattle.book.specs.declared.books.Book.{Book}
 use Rattle.book.specs.declared.key.KeyPlace.{KeyPlace}
 use Rattle.book.specs.declared.key.KeyPlace.TheVariants.{In, Out}
 use Rattle.book.specs.declared.key.ServiceKey.{ServiceKey}
@@ -63,6 +64,10 @@ pub record World : Type 0 where
 
 abbrev pub world : ℕ → ListState → List Slot → World
 world number state row = record { number = number; state = state; row = row }
+
+-- the same of a book over a tray of this row
+abbrev pub world_of : {R T : Type 0} → (T → List Slot) → Book R T → World
+world_of row book = world book.number book.state (row book.tray)
 
 -- the calls that show a key, and the reads, by what they have in common
 abbrev pub keyed_answer : {R : Type 0} → Keyed → ℕ → World → Answer R

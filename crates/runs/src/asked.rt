@@ -50,7 +50,7 @@ pub enum Call<R> {
     },
 }
 
-// Those of them that show a key and leave it with its holder.
+// Those of them that show a key and leave it with its holder; data, since definitions and orders name them.
 #[derive(Clone, Copy)]
 pub enum Keyed {
     Start,
@@ -59,7 +59,7 @@ pub enum Keyed {
     Release(u32),
 }
 
-// The reads, without their rows.
+// The reads, without their rows; data for the same reason.
 #[derive(Clone, Copy)]
 pub enum Read {
     Since { mark: (u32, u32), limit: u16 },

@@ -5,38 +5,14 @@ ghost use Rattle.book.specs.Reads.{laid};
 ghost use Rattle.runs.specs.Answers.{answer_of, as_given, given};
 ghost use Rattle.runs.specs.Steps.{read_checks, read_answer, read_gives};
 
-use crate::Reply;
 use crate::asked::Read;
+use crate::{Accepted, Reply};
 use book::{Book, BookFault, Reading};
 use records::{Frame, Record};
 use std::alloc::{AllocError, Global};
 use trays::{Slot, Tray};
 
-// A row of so many frames; a read tells of what it held before only where it gives less.
-fn row_of<R: Record>(heap: Global, blank: Frame<R>, room: u16) -> Result<Vec<Frame<R>>, AllocError>
-    ensures { IfOk result (λ row. vec_len row ≡ room) }
-{
-    let mut row = Vec::new(heap);
-    for _ in 0..room {
-        row.push(blank)?;
-    }
-    Ok(row)
-}
-
-// The reply to a read that has filled this row.
-fn reply<R: Record>(answer: Result<Reading, BookFault>, mut row: Vec<Frame<R>>) -> Reply<R>
-    ensures { answer_of result ≡ as_given (told answer) (given answer row.items) }
-{
-    match answer {
-        Ok(reading) => {
-            row.truncate(reading.count as usize);
-            Reply::Gave(reading, row)
-        }
-        Err(fault) => Reply::Refused(fault),
-    }
-}
-
-// A read into the caller's row.
+// A read into the caller's row, told by its case as in the definitions.
 pub fn ask<R: Record, T: Tray<Slot = Slot>>(
     book: &Book<R, T>,
     read: Read,
@@ -63,7 +39,9 @@ pub(crate) fn read_own<R: Record, T: Tray<Slot = Slot>>(
 ) -> Result<Reply<R>, AllocError>
     ensures { let b = book.now in let slots = T.Tray.row b.tray in IfOk result (λ reply. answer_of reply ≡ as_given (decided (read_checks read b.state slots room) (read_answer R.reads read b.state slots room)) (read_gives R.reads read b.state slots room)) }
 {
-    let mut row = row_of(heap, blank, room)?;
-    let answer = ask(book, read, &mut row);
-    Ok(reply(answer, row))
+    let mut row = vec![in heap; blank; room as usize]?;
+    Ok(ask(book, read, &mut row).map(|reading| {
+        row.truncate(reading.count as usize);
+        Accepted::Gave(reading, row)
+    }))
 }

@@ -2,12 +2,13 @@
 use book::{BookFault, Entered, Reading};
 use records::Frame;
 
+pub type Reply<R> = Result<Accepted<R>, BookFault>;
+
 #[derive(Drop)]
-pub enum Reply<R> {
-    Refused(BookFault),
+pub enum Accepted<R> {
     Done,
     Entered(Entered),
-    // a read, with the frames that it gave
+    // a read as the book answered it, so with its count, and the frames that it gave
     Gave(Reading, Vec<Frame<R>>),
     // the key of this book was taken
     Key(u16),
