@@ -11,10 +11,10 @@ use Rattle.runs.specs.Steps.{World, read_checks, read_answer, read_gives}
 use Rattle.runs.proofs.Given.{count_given}
 use Rattle.requests.specs.declared.faults.TelegramFault.{TelegramFault}
 use Rattle.requests.specs.declared.faults.TelegramFault.TheVariants.{Length, NoBuffer, Seal, Form, NoMethod, OtherKind, Book}
-use Rattle.seals.specs.Fletcher.{is_sealed}
 use Rattle.replies.specs.Layout.{status_reply, written_length, written_over}
 use Rattle.requests.specs.Faults.{fault_number}
-use Rattle.requests.specs.Parsing.{after, ranged, named_at, fields_of, request_of}
+use Rattle.requests.specs.declared.naming.Request.{Request}
+use Rattle.requests.specs.Parsing.{after, seal_checked, ranged, named_at, fields_of, request_of}
 use Rattle.exchange.specs.declared.orders.Order.{Order}
 use Rattle.exchange.specs.declared.orders.Order.TheVariants.{Enter, Listen, Show, Ask}
 use Rattle.exchange.specs.declared.orders.Said.{Said}
@@ -74,15 +74,13 @@ module _ {R : Type 0} (reads : List ℕ → Result R RecordFault) (w : World) (o
 heard : (telegram : List ℕ) (room : ℕ) → (82 ≤ room) ⊎ ((fault : TelegramFault) × (request_of telegram room ≡ Err fault) × (refusal_reply (fault_number fault) ≡ []))
 heard telegram room = go (ltb (length telegram) 2 || ltb 4096 (length telegram)) (ltb room 82) refl refl
   where
+    checked : Bool → Bool → Result Request TelegramFault
+    checked long short = after (after (cond long (Err Length) (Ok tt)) (cond short (Err NoBuffer) (seal_checked telegram))) (ranged (named_at (fields_of telegram, 0)))
+
     go : (long short : Bool) → (ltb (length telegram) 2 || ltb 4096 (length telegram)) ≡ long → ltb room 82 ≡ short
         → (82 ≤ room) ⊎ ((fault : TelegramFault) × (request_of telegram room ≡ Err fault) × (refusal_reply (fault_number fault) ≡ []))
-    go true short e e' = inr (Length, ap (λ b. after (cond b (Err Length) (cond (ltb room 82) (Err NoBuffer) (cond (is_sealed telegram) (Ok tt) (Err Seal)))) (ranged (named_at (fields_of telegram, 0)))) e, refl)
-    go false true e e' = inr (
-      NoBuffer,
-      ap (λ b. after (cond b (Err Length) (cond (ltb room 82) (Err NoBuffer) (cond (is_sealed telegram) (Ok tt) (Err Seal)))) (ranged (named_at (fields_of telegram, 0)))) e
-          ∙ ap (λ b. after (cond b (Err NoBuffer) (cond (is_sealed telegram) (Ok tt) (Err Seal))) (ranged (named_at (fields_of telegram, 0)))) e',
-      refl,
-    )
+    go true short e e' = inr (Length, ap (λ b. checked b (ltb room 82)) e, refl)
+    go false true e e' = inr (NoBuffer, ap (λ b. checked b (ltb room 82)) e ∙ ap (checked false) e', refl)
     go false false e e' = inl (ltb-false room 82 e')
 
 refusal_short : (number : ℕ) → length (refusal_reply number) ≤ 7

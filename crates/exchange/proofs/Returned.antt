@@ -1,5 +1,5 @@
 -- The far end takes from a reply what was told.
-use Rattle.std.proofs.Common.{◌≡◌, ℕ, ◌-◌, ◌≤◌, min, Bool, true, false, cond, not, ◌&&◌, eqb, leb, List, [], length, Some, None, Ok, Err, Option, Result, refl, ap, ◌∙◌, subst, inl, inr, arith}
+use Rattle.std.proofs.Common.{◌≡◌, ℕ, ◌-◌, ◌≤◌, min, Bool, true, false, cond, not, ◌&&◌, eqb, leb, List, [], length, Some, None, Ok, Err, Option, Result, refl, ap, ◌∙◌, subst, arith}
 use Rattle.std.proofs.lemmas.List.{length-take}
 use Rattle.std.proofs.lemmas.Bool.{eqb-false}
 use Rattle.std.proofs.lemmas.Bool.Decides.{nat_tests}
@@ -20,7 +20,7 @@ use Rattle.requests.specs.Faults.{fault_number}
 use Rattle.replies.specs.Layout.{status_reply}
 use Rattle.reading_end.specs.Layouts.{is_refusal_number, count_fits}
 use Rattle.reading_end.specs.Replies.{reply_of}
-use Rattle.reading_end.proofs.Whole.{status_back, entered_back, read_back, again_of}
+use Rattle.reading_end.proofs.Whole.{done_back, refused_back as refusal_back, entered_back, read_back, again_of}
 use Rattle.exchange.specs.declared.orders.Order.{Order}
 use Rattle.exchange.specs.declared.orders.Order.TheVariants.{Enter, Listen, Show, Ask}
 use Rattle.exchange.specs.declared.orders.Said.{Said}
@@ -93,8 +93,8 @@ module _ {R : Type 0} (reads : List ℕ → Result R RecordFault) (w : World) (n
         → (room : ℕ) → 144 ≤ room
         → TakenAs reads writes means (accepted (order_says reads order w n)) (order_gives reads order w n) (reply_of kind reads (said_reply kind writes (order_says reads order w n) (order_gives reads order w n)) room)
     accepted_back (Enter time r) e fits room much = entered_back kind reads _ room fits
-    accepted_back (Listen party mark level) e fits room much = status_back kind reads 0 room (inl refl)
-    accepted_back (Show call) e fits room much = status_back kind reads 0 room (inl refl)
+    accepted_back (Listen party mark level) e fits room much = done_back kind reads room
+    accepted_back (Show call) e fits room much = done_back kind reads room
     accepted_back (Ask read) e fits room much =
         let gives = read_gives reads read w.state w.row n in
         let most = few read e in
@@ -110,7 +110,7 @@ module _ {R : Type 0} (reads : List ℕ → Result R RecordFault) (w : World) (n
       where
         go : (b : Bool) → ReadBack reads writes means kind (cond b [] (status_reply number)) (refused number) frames
         go true = tt
-        go false = λ room much. (from_ten number is, status_back kind reads number room (inr is))
+        go false = λ room much. (from_ten number is, refusal_back kind reads number room is)
 
     order_back : (order : Order R) (v : Option ℕ) → verdict (order_checks order w n) ≡ v → ((number : ℕ) → v ≡ Some number → is_refusal_number number ≡ true)
         → ToldFits writes (tell v (order_says reads order w n)) (keep v (order_gives reads order w n) [])

@@ -23,14 +23,14 @@ ToldFits writes (accepted said) frames = SaidFits writes said frames
 ToldFits writes (refused number) frames = Unit {0}
 
 module _ {R V : Type 0} (reads : List ℕ → Result R RecordFault) (writes : R → List ℕ) (means : R → V) where
-  -- what was told, taken from its reply: the status (of a refusal, from 10 on), the entry's answer, or the read's with each frame at its time and position, its
+  -- what was told, taken from its reply: that it is done, the number of a refusal (10 or more), the entry's answer, or the read's with each frame at its time and position, its
   -- record as its words read, which means the same
   abbrev pub TakenAs : Told Said → List (Frame R) → Result (Reply × List (Frame R)) TelegramFault → Type 0
-  TakenAs (accepted Done) frames taken = taken ≡ Ok (Reply.Status 0, [])
+  TakenAs (accepted Done) frames taken = taken ≡ Ok (Reply.Done, [])
   TakenAs (accepted (Entered entered)) frames taken = taken ≡ Ok (Reply.Entered entered, [])
   TakenAs (accepted (Gave reading)) frames taken =
       (again : List (Frame R)) × (taken ≡ Ok (Reply.Read reading, again)) × AllAgain reads writes frames again × AllZip (SameFrame means) frames again
-  TakenAs (refused number) frames taken = (10 ≤ number) × (taken ≡ Ok (Reply.Status number, []))
+  TakenAs (refused number) frames taken = (10 ≤ number) × (taken ≡ Ok (Reply.Refused number, []))
 
   -- a reply in these bytes, if there is one, is so taken by a reading end whose row takes the frames of a reply
   abbrev pub ReadBack : ℕ → List ℕ → Told Said → List (Frame R) → Type 0

@@ -3,6 +3,7 @@ use book::{Entered, Reading};
 use requests::TelegramFault;
 use runs::{Keyed, Read};
 
+// A request again, but grouped by what a book does with it, and an entry with its record in place of words.
 #[derive(Clone, Copy)]
 pub enum Order<R> {
     Enter {
@@ -19,6 +20,7 @@ pub enum Order<R> {
     Ask(Read),
 }
 
+// Not what a call of a run is answered: the frames lie in the caller's row, and no key is given out.
 #[derive(Clone, Copy)]
 pub enum Said {
     Done,
@@ -27,8 +29,8 @@ pub enum Said {
     Gave(Reading),
 }
 
-// How a telegram was served: the length of the reply in the buffer, 0 where none is made, and whether
-// what it asked was done.
+// How a telegram was served: how many bytes of the buffer its reply takes, none where none is made (no
+// Option, since the buffer's front of that length is the reply either way), and whether what it asked was done.
 #[derive(Clone, Copy)]
 pub struct Served {
     pub reply: usize,

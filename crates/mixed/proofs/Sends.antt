@@ -42,10 +42,6 @@ module _ {R V : Type 0} (K : Numbered R V) (w : World) (number room : ℕ) where
   no_entry_refused : (c : Call R) (n t : ℕ) (r : R) (p : ℕ) (cs : List Bool) → c ≡ Enter t r → ◌≡◌ {A = Answer R} (refused n) (entered p cs) → w.state.last_time ≤ t
   no_entry_refused c n t r p cs e f = absurd (let z : ◌≡◌ {A = ℕ} 0 1 = cc in omega arith)
 
-  no_entry_gave : (c : Call R) (a : Answer R) → ((p : ℕ) (cs : List Bool) → a ≡ entered p cs → ⊥)
-      → (t : ℕ) (r : R) (p : ℕ) (cs : List Bool) → c ≡ Enter t r → a ≡ entered p cs → w.state.last_time ≤ t
-  no_entry_gave c a never t r p cs e f = absurd (never p cs f)
-
   abbrev accepted_answer : Order R → Answer R
   accepted_answer order = as_said (accepted (order_says K.kind.reads order w room)) (order_gives K.kind.reads order w room)
 

@@ -1,9 +1,7 @@
 -- The frames of a book that calls and telegrams have led to are as the words of their records read.
-use Rattle.std.proofs.Common.{◌≡◌, ℕ, zero, suc, ◌+◌, ◌-◌, ◌<◌, ◌≤◌, min, max, Bool, true, false, cond, ◌&&◌, eqb, leb, List, [], ◌∷◌, ◌++◌, length, take, Some, None, Ok, Err, Option, Result, sym, refl, ap, ◌∙◌, subst, ap₂, arith, take_at}
+use Rattle.std.proofs.Common.{◌≡◌, ℕ, zero, suc, ◌+◌, ◌-◌, ◌<◌, ◌≤◌, min, max, Bool, true, false, cond, ◌&&◌, leb, List, [], ◌∷◌, ◌++◌, length, take, Some, None, Ok, Err, Option, Result, sym, refl, ap, ◌∙◌, subst, ap₂, arith, take_at}
 use Rattle.std.specs.List.{AllByRecursion}
 use Rattle.std.proofs.ByRecursion.{All-take}
-use Rattle.std.proofs.lemmas.Bool.{cond-false}
-use Rattle.std.proofs.lemmas.Bool.Decides.{nat_tests}
 use Rattle.trays.specs.declared.slots.Slot.{Slot}
 use Rattle.records.specs.declared.frames.Frame.{Frame}
 use Rattle.book.specs.State.{new_list}
@@ -78,9 +76,6 @@ module _ {R V : Type 0} (K : Numbered R V) (keeps : Keeps K.kind) (alike : Alike
   settled Read.Youngest room = All-take (Still K) 1 _ (still_held ((left_by K number row uses).state.last - 1))
   settled (Read.Span first last limit) room = All-take (Still K) (min limit room) _ (still_within K first last _ (still_held 0))
 
-not_none : (number : ℕ) → 10 ≤ number → eqb number 0 ≡ false
-not_none number l = grind (arith, nat_tests)
-
 same_ok : {X E : Type 0} (x y : X) → ◌≡◌ {A = Result X E} (Ok x) (Ok y) → x ≡ y
 same_ok x y e = cc
 
@@ -100,8 +95,7 @@ module _ {R V : Type 0} (K : Numbered R V) where
   taken_so (accepted Done) frames taken still e = ap taken_answer e
   taken_so (accepted (Entered answer)) frames taken still e = ap taken_answer e
   taken_so (accepted (Gave reading)) frames taken still e = ap taken_answer e.1 ∙ ap (gave reading) (again_same frames e.0 still e.2)
-  taken_so (was_refused number) frames taken still e =
-      ap taken_answer e.1 ∙ cond-false _ _ _ (not_none number e.0)
+  taken_so (was_refused number) frames taken still e = ap taken_answer e.1
 
   sent_still : (w : World) (room : ℕ) (asked : Result (Order R) TelegramFault) → Settled K w → AllByRecursion (Still K) (sent_gives K.kind.reads asked w room)
   sent_still w room (Err fault) settled = tt

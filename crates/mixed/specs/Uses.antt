@@ -1,5 +1,5 @@
 -- A run, use by use: calls of the book and telegrams to it, what is seen of each, and the book after it.
-use Rattle.std.specs.Prelude.{◌≡◌, ℕ, cond, List, [], ◌∷◌, ◌++◌, Ok, Err, vec_items, Result, ◌==◌}
+use Rattle.std.specs.Prelude.{◌≡◌, ℕ, List, [], ◌∷◌, ◌++◌, Ok, Err, vec_items, Result}
 use Rattle.std.specs.List.{AllByRecursion}
 use Rattle.records.specs.declared.frames.Frame.{Frame}
 use Rattle.book.specs.Told.{Told, Told.accepted, Told.refused as was_refused}
@@ -47,7 +47,8 @@ seen_reply (byte ∷ bytes) answer = replied (byte ∷ bytes) answer
 
 -- the answer that the reading end takes from a reply
 abbrev pub reply_answer : {R : Type 0} → Reply → List (Frame R) → Answer R
-reply_answer (Reply.Status number) frames = cond (number == 0) done (refused number)
+reply_answer Reply.Done frames = done
+reply_answer (Reply.Refused number) frames = refused number
 reply_answer (Reply.Entered answer) frames = entered answer.position answer.called
 reply_answer (Reply.Read reading) frames = gave reading frames
 

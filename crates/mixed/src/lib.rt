@@ -10,6 +10,7 @@ mod sending;
 mod serving;
 mod turns;
 
-pub use running::{Outcome, run};
+pub use running::run;
+pub use runs::Outcome;
 pub use serving::serve;
 pub use turns::{Answer, Turn};

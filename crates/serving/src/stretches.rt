@@ -1,6 +1,6 @@
 // Telegrams of an input served one after another.
 ghost use Rattle.std.specs.Prelude.{◌≡◌, ◌≤◌, ◌++◌, length, is_ok, IfOk, if◌then◌else◌, OnOk};
-ghost use Rattle.runs.specs.Steps.{world};
+ghost use Rattle.runs.specs.Steps.{world_of};
 ghost use Rattle.framing.specs.Frames.{front};
 ghost use Rattle.serving.specs.Sessions.{desk, is_too_long, telegrams, taken, ends, reply_of, after, written, writes_all, after_all};
 
@@ -12,14 +12,15 @@ use std::alloc::AllocError;
 use trays::{Slot, Tray};
 
 // How far a stretch of input was served: the bytes that are used up, and whether a length that no
-// telegram has follows them, so that nothing after it can be read.
+// telegram has follows them, so that nothing after it can be read. Both are told of every stretch, so
+// neither is an Option of the other.
 #[derive(Clone, Copy)]
 pub struct Stretch {
     pub used: usize,
     pub ended: bool,
 }
 
-// One telegram; its reply, where one is made, goes behind the output.
+// One telegram; its reply, where one is made (one of no bytes is none), goes behind the output.
 fn serve_one<R: Exact, T: Tray<Slot = Slot>>(
     book: &mut Book<R, T>,
     telegram: &[u8],
@@ -27,8 +28,8 @@ fn serve_one<R: Exact, T: Tray<Slot = Slot>>(
     buffer: &mut [u8],
     out: &mut Vec<u8>,
 ) -> Result<(), AllocError>
-    ensures output { let b = book.old in let w = world b.number b.state (T.Tray.row b.tray) in let d = desk R.kind R.reads R.writes (length into.old) (length buffer.old) in let old = out.old.items in out.new.items ≡ (if is_ok result then old ++ written (reply_of d w telegram.now) else old) }
-    ensures book { let b = book.old in let w = world b.number b.state (T.Tray.row b.tray) in let d = desk R.kind R.reads R.writes (length into.old) (length buffer.old) in let b' = book.new in world b'.number b'.state (T.Tray.row b'.tray) ≡ after d w telegram.now }
+    ensures output { let w = world_of T.Tray.row book.old in let d = desk R.NUMBER R.reads R.writes (length into.old) (length buffer.old) in let old = out.old.items in out.new.items ≡ (if is_ok result then old ++ written (reply_of d w telegram.now) else old) }
+    ensures book { let w = world_of T.Tray.row book.old in let d = desk R.NUMBER R.reads R.writes (length into.old) (length buffer.old) in world_of T.Tray.row book.new ≡ after d w telegram.now }
     ensures memory { T.Tray.memory book.new.tray ≡ T.Tray.memory book.old.tray }
 {
     let length = serve(book, telegram, into, buffer).reply;
@@ -47,31 +48,25 @@ pub fn serve_stretch<R: Exact, T: Tray<Slot = Slot>>(
     buffer: &mut [u8],
     out: &mut Vec<u8>,
 ) -> Result<Stretch, AllocError>
-    ensures output { let b = book.old in let w = world b.number b.state (T.Tray.row b.tray) in let d = desk R.kind R.reads R.writes (length into.old) (length buffer.old) in OnOk result (out.new.items ≡ out.old.items ++ writes_all d w (telegrams input.now)) }
-    ensures book { let b = book.old in let w = world b.number b.state (T.Tray.row b.tray) in let d = desk R.kind R.reads R.writes (length into.old) (length buffer.old) in let b' = book.new in OnOk result (world b'.number b'.state (T.Tray.row b'.tray) ≡ after_all d w (telegrams input.now)) }
+    ensures output { let w = world_of T.Tray.row book.old in let d = desk R.NUMBER R.reads R.writes (length into.old) (length buffer.old) in OnOk result (out.new.items ≡ out.old.items ++ writes_all d w (telegrams input.now)) }
+    ensures book { let w = world_of T.Tray.row book.old in let d = desk R.NUMBER R.reads R.writes (length into.old) (length buffer.old) in OnOk result (world_of T.Tray.row book.new ≡ after_all d w (telegrams input.now)) }
     ensures memory { T.Tray.memory book.new.tray ≡ T.Tray.memory book.old.tray }
     ensures used { IfOk result (λ s. s.used ≡ taken (telegrams input.now)) }
     ensures ended { IfOk result (λ s. s.ended ≡ ends input.now) }
 {
     let mut rest = input;
-    loop {
+    let ended = loop {
         match cut(rest) {
             Piece::Telegram(telegram, after) => {
                 serve_one(book, telegram, into, buffer, out)?;
                 rest = after;
             }
-            Piece::Incomplete(_) => {
-                return Ok(Stretch {
-                    used: input.len() - rest.len(),
-                    ended: false,
-                });
-            }
-            Piece::TooLong => {
-                return Ok(Stretch {
-                    used: input.len() - rest.len(),
-                    ended: true,
-                });
-            }
+            Piece::Incomplete(_) => break false,
+            Piece::TooLong => break true,
         }
-    }
+    };
+    Ok(Stretch {
+        used: input.len() - rest.len(),
+        ended,
+    })
 }

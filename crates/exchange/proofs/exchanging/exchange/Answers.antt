@@ -1,4 +1,4 @@
-use Rattle.std.proofs.Common.{◌≡◌, ℕ, ◌-◌, ◌≤◌, min, ◌++◌, length, take, drop, sym, ap, ◌∙◌, subst, ap₂, subst₂, arith, take_at}
+use Rattle.std.proofs.Common.{◌≡◌, ℕ, ◌≤◌, min, ◌++◌, length, take, drop, sym, ap, ◌∙◌, subst, ap₂, subst₂, arith, take_at}
 use Rattle.std.proofs.lemmas.List.{length-take}
 use Rattle.std.proofs.lemmas.Bool.{eqb-false}
 use Rattle.runs.specs.Steps.{world}
@@ -14,7 +14,7 @@ returns g c =
     let reads = g.R.Record.reads in
     let writes = g.R.Record.writes in
     let means = g.R.Record.means in
-    let kind = g.R.Record.kind in
+    let kind = g.R.Record.NUMBER in
     let b = c.args.book.now in
     let w = world b.number b.state (g.T.Tray.row b.tray) in
     let telegram = c.args.telegram.now in
@@ -24,9 +24,9 @@ returns g c =
     let room = c.usable-room.ensures in
     let all = c.serve.ensures in
     let few : frames ≤ length into = omega arith in
-    let count : c.frame_room-frames.result - 0 ≡ frames = omega (arith, c.frame_room-frames.ensures) in
+    let count : c.frame_room-frames.result ≡ frames = omega (arith, c.frame_room-frames.ensures) in
     let whole-front : min frames (length into) ≡ frames = omega (arith, few) in
-    let size : length (take (c.frame_room-frames.result - 0) into) ≡ frames = omega (arith, length-take (c.frame_room-frames.result - 0) into, c.frame_room-frames.ensures) in
+    let size : length (take (c.frame_room-frames.result) into) ≡ frames = omega (arith, length-take (c.frame_room-frames.result) into, c.frame_room-frames.ensures) in
     let reply = sent_reply reads kind writes asked w frames in
     let long : c.serve.result.reply ≡ length reply = all.length ∙ ap₂ (λ r n. length (sent_reply reads kind writes (asked_of reads telegram r) w n)) room size in
     let laid : c.serve.new.buffer ≡ replied reply c.args.buffer.now = all.buffer ∙ ap₂ (λ r n. replied (sent_reply reads kind writes (asked_of reads telegram r) w n) c.args.buffer.now) room size in

@@ -1,16 +1,15 @@
 use Rattle.std.proofs.Common.{◌≡◌, ℕ, length, take, vec_items, ap, ◌∙◌, ap₂, arith}
 use Rattle.std.proofs.lemmas.List.{with_items_is}
-use Rattle.runs.specs.Steps.{World, world}
-use Rattle.mixed.specs.Kinds.{Numbered}
+use Rattle.runs.specs.Steps.{world, world_of}
+use Rattle.mixed.specs.Kinds.{numbered}
 use Rattle.mixed.specs.Uses.{Use.sent, use_seen, use_after}
 use Rattle.mixed.proofs.Settles.{sent_seen}
 use Rattle.mixed.proofs.sending.send.Goals as goal
 
 pub returns : goal.returns
 returns g c =
-    let K : Numbered g.row.R.Denot g.R.Record.Value = record { number = g.R.Record.kind; kind = record { means = g.R.Record.means; writes = g.R.Record.writes; reads = g.R.Record.reads } } in
-    let b = c.args.book.now in
-    let w : World = world b.number b.state (g.T.Tray.row b.tray) in
+    let K = numbered g.R.Record in
+    let w = world_of g.T.Tray.row c.args.book.now in
     let does = c.exchange-served.ensures in
     let bytes = c.args.bytes.now in
     let row : length c.deref_mut.result.now ≡ c.args.frames = let e = c.in_ok-row.ensures in let l = c.deref_mut.ensures.len in omega arith in

@@ -3,4 +3,4 @@ use Rattle.serving.proofs.Joining.{joins}
 use Rattle.serving.proofs.laws.stretches_join.Goals as goal
 
 pub returns : goal.returns
-returns g c frames bytes w first second = joins (desk g.R.Record.kind g.R.Record.reads g.R.Record.writes frames bytes) w first second
+returns g c frames bytes w first second = joins (desk g.R.Record.NUMBER g.R.Record.reads g.R.Record.writes frames bytes) w first second
