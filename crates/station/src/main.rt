@@ -4,37 +4,11 @@
 
 use book::Book;
 use framing::{Piece, cut};
-use records::{Degree, Frame, Message, Record};
+use records::{Frame, Message, Record};
 use serving::serve_stretch;
 use std::io;
-use std::io::{Read, Stdin, Write};
+use std::io::{Read, Write};
 use trays::{Annex, OpenTray, PackedTray, Slot, Tray};
-
-const EMPTY: Slot = Slot {
-    time: 0,
-    position: 0,
-    words: [0; 4],
-};
-
-const BLANK: Frame<Message> = Frame {
-    time: 0,
-    position: 0,
-    body: Message {
-        maker: 0,
-        object: 0,
-        degree: Degree::First,
-        process: 0,
-    },
-};
-
-// Reads at most so many bytes behind those that wait; none at the end of the input.
-fn read_more(input: &mut Stdin, waiting: &mut Vec<u8>, most: usize) -> io::Result<usize> {
-    let mut bytes = [0; 4096];
-    let chunk = &mut bytes[0..most.min(4096)];
-    let count = input.read(chunk)?;
-    waiting.extend_from_slice(&chunk[0..count])?;
-    Ok(count)
-}
 
 // Serves one telegram after another until the input ends, or a length that no telegram has.
 fn serve_input<T: Tray<Slot = Slot>>(
@@ -47,6 +21,7 @@ fn serve_input<T: Tray<Slot = Slot>>(
     let mut output = rt.stdout();
     let mut waiting = Vec::new(rt.alloc());
     let mut replies = Vec::new(rt.alloc());
+    // counted, since a loop is proved to end: so many turns never come
     for _ in 0..u64::MAX {
         match cut(waiting.as_slice()) {
             Piece::Telegram(_, _) => {
@@ -57,7 +32,8 @@ fn serve_input<T: Tray<Slot = Slot>>(
                 waiting.clear();
             }
             Piece::Incomplete(missing) => {
-                if read_more(&mut input, &mut waiting, missing)? == 0 {
+                let mut missing = input.by_ref().take(missing as u64);
+                if missing.read_to_end(&mut waiting)? == 0 {
                     break;
                 }
             }
@@ -68,9 +44,9 @@ fn serve_input<T: Tray<Slot = Slot>>(
 }
 
 fn main(rt: HostRuntime) -> io::Result<()> {
-    let mut slots = [EMPTY; 64];
+    let mut slots = [Slot::default(); 64];
     let mut bytes = [0; 1536];
-    let mut row = [BLANK; 144];
+    let mut row = [Frame::default(); 144];
     let mut buffer = [0; 4096];
     let tray = Annex::new(OpenTray::new(&mut slots), PackedTray::new(&mut bytes));
     let mut book = Book::new(1, tray);

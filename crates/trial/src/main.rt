@@ -3,23 +3,10 @@
 
 ghost use Rattle.std.specs.Prelude.{◌≡◌};
 
-use book::{Book, BookFault, KeyPlace, Mode, Reading, ServiceKey, Status};
+use book::{Book, BookFault, Mode, Reading, ServiceKey, Status};
 use records::{Degree, Frame, Message, Record};
 use std::io;
 use trays::{OpenTray, Slot, Tray};
-
-const EMPTY: Slot = Slot {
-    time: 0,
-    position: 0,
-    words: [0; 4],
-};
-
-const NOTHING: Message = Message {
-    maker: 0,
-    object: 0,
-    degree: Degree::First,
-    process: 0,
-};
 
 // What the station reports, with its times.
 const ENTRIES: [(u32, Message); 5] = [
@@ -70,45 +57,21 @@ const ENTRIES: [(u32, Message); 5] = [
     ),
 ];
 
-// Takes the key, starts the list, and hands the key back.
-fn begin<R: Record, T: Tray<Slot = Slot>>(book: &mut Book<R, T>) -> Result<(), BookFault> {
-    let key = book.take()?;
-    let started = book.start(&key);
-    give_back(book, key);
-    started
-}
-
-// The same way for the other calls that need the key.
-fn end<R: Record, T: Tray<Slot = Slot>>(book: &mut Book<R, T>) -> Result<(), BookFault> {
-    let key = book.take()?;
-    let stopped = book.stop(&key);
-    give_back(book, key);
-    stopped
-}
-
-fn keep<R: Record, T: Tray<Slot = Slot>>(book: &mut Book<R, T>) -> Result<(), BookFault> {
-    let key = book.take()?;
-    let set = book.set_mode(&key, Mode::Keep);
-    give_back(book, key);
-    set
-}
-
-fn release<R: Record, T: Tray<Slot = Slot>>(
+// Takes the key, makes one call that shows it, and hands it back. The call leaves the book's number and
+// the place of its key as they were. No call of the book, which asks nothing of its caller.
+fn with_key<R: Record, T: Tray<Slot = Slot>, F>(
     book: &mut Book<R, T>,
-    position: u32,
-) -> Result<(), BookFault> {
-    let key = book.take()?;
-    let released = book.release(&key, position);
-    give_back(book, key);
-    released
-}
-
-// The key that this book gave, and that is still out.
-fn give_back<R: Record, T: Tray<Slot = Slot>>(book: &mut Book<R, T>, key: ServiceKey)
-    requires { (key.book ≡ book.old.number) × (book.old.state.key ≡ KeyPlace.Out) }
+    call: F,
+) -> Result<(), BookFault>
+where
+    F: FnOnce(&mut Book<R, T>, &ServiceKey) -> Result<(), BookFault>,
+    requires callable { F.IsAlwaysCallable call }
+    requires keeps { (old : _) (key : _) (answer : _) (new : _) → F.post call old key answer new → (new.now.number ≡ old.now.number) × (new.now.state.key ≡ old.now.state.key) }
 {
+    let key = book.take()?;
+    let answer = call(book, &key);
     match book.hand_back(key) {
-        Ok(()) => {}
+        Ok(()) => answer,
         Err(_) => unreachable!(),
     }
 }
@@ -186,11 +149,7 @@ fn print_since<T: Tray<Slot = Slot>>(
 ) -> io::Result<()> {
     let (time, position) = mark;
     println!(rt; "Reading on from mark ({time}, {position}), limit {limit}.")?;
-    let mut row = [Frame {
-        time: 0,
-        position: 0,
-        body: NOTHING,
-    }; 144];
+    let mut row = [Frame::default(); 144];
     match book.since(mark, limit, &mut row) {
         Ok(reading) => print_reading(rt, &reading, &row),
         Err(fault) => print_fault(rt, fault),
@@ -202,10 +161,14 @@ fn print_leaving<T: Tray<Slot = Slot>>(
     rt: &HostRuntime,
     book: &mut Book<Message, T>,
 ) -> io::Result<()> {
-    print_done(rt, "Released up to position 4", release(book, 4))?;
+    print_done(
+        rt,
+        "Released up to position 4",
+        with_key(book, |book, key| book.release(key, 4)),
+    )?;
     print_since(rt, book, (11, 3), 144)?;
-    print_done(rt, "Stopped", end(book))?;
-    print_done(rt, "Started", begin(book))?;
+    print_done(rt, "Stopped", with_key(book, Book::stop))?;
+    print_done(rt, "Started", with_key(book, Book::start))?;
     print_since(rt, book, (12, 4), 144)
 }
 
@@ -218,13 +181,13 @@ fn print_done(rt: &HostRuntime, what: &str, answer: Result<(), BookFault>) -> io
 
 // Three slots: the gap, what is known and what is not, and how frames leave.
 fn print_trial_book(rt: &HostRuntime) -> io::Result<()> {
-    let mut slots = [EMPTY; 3];
+    let mut slots = [Slot::default(); 3];
     let mut book = Book::new(1, OpenTray::new(&mut slots));
     println!(rt; "A count book for messages, book 1, over 3 slots.")?;
     print_done(
         rt,
         "Key taken, list started, key handed back",
-        begin(&mut book),
+        with_key(&mut book, Book::start),
     )?;
     for (time, message) in ENTRIES {
         print_entry(rt, &mut book, time, message)?;
@@ -234,38 +197,46 @@ fn print_trial_book(rt: &HostRuntime) -> io::Result<()> {
     print_since(rt, &book, (11, 3), 1)?;
     print_since(rt, &book, (10, 3), 144)?;
     print_since(rt, &book, (0, 6), 144)?;
-    print_entry(rt, &mut book, 11, NOTHING)?;
+    print_entry(rt, &mut book, 11, Message::default())?;
     print_leaving(rt, &mut book)
 }
 
 // Four slots, of which a party wants to be called at more than half.
 fn print_calling(rt: &HostRuntime) -> io::Result<()> {
-    let mut slots = [EMPTY; 4];
+    let mut slots = [Slot::default(); 4];
     let mut book = Book::new(2, OpenTray::new(&mut slots));
     println!(rt; "Book 2, over 4 slots.")?;
-    print_done(rt, "Started", begin(&mut book))?;
+    print_done(rt, "Started", with_key(&mut book, Book::start))?;
     print_done(
         rt,
         "Party 1 listens from mark (0, 0) at fill level 50",
         book.listen(1, (0, 0), 50),
     )?;
-    print_entry(rt, &mut book, 1, NOTHING)?;
-    print_entry(rt, &mut book, 1, NOTHING)?;
-    print_entry(rt, &mut book, 1, NOTHING)
+    print_entry(rt, &mut book, 1, Message::default())?;
+    print_entry(rt, &mut book, 1, Message::default())?;
+    print_entry(rt, &mut book, 1, Message::default())
 }
 
 // Two slots in keep mode: the third frame waits for a release.
 fn print_keeping(rt: &HostRuntime) -> io::Result<()> {
-    let mut slots = [EMPTY; 2];
+    let mut slots = [Slot::default(); 2];
     let mut book = Book::new(3, OpenTray::new(&mut slots));
     println!(rt; "Book 3, over 2 slots, in keep mode.")?;
-    print_done(rt, "Mode set", keep(&mut book))?;
-    print_done(rt, "Started", begin(&mut book))?;
-    print_entry(rt, &mut book, 1, NOTHING)?;
-    print_entry(rt, &mut book, 1, NOTHING)?;
-    print_entry(rt, &mut book, 1, NOTHING)?;
-    print_done(rt, "Released up to position 1", release(&mut book, 1))?;
-    print_entry(rt, &mut book, 1, NOTHING)
+    print_done(
+        rt,
+        "Mode set",
+        with_key(&mut book, |book, key| book.set_mode(key, Mode::Keep)),
+    )?;
+    print_done(rt, "Started", with_key(&mut book, Book::start))?;
+    print_entry(rt, &mut book, 1, Message::default())?;
+    print_entry(rt, &mut book, 1, Message::default())?;
+    print_entry(rt, &mut book, 1, Message::default())?;
+    print_done(
+        rt,
+        "Released up to position 1",
+        with_key(&mut book, |book, key| book.release(key, 1)),
+    )?;
+    print_entry(rt, &mut book, 1, Message::default())
 }
 
 fn main(rt: HostRuntime) -> io::Result<()> {

@@ -1,4 +1,5 @@
-// A line read into a call.
+// A line read into a call. That the row of a read fits is said by `RoomFits` in each contract: a type of
+// its own for such calls would narrow what a run takes.
 ghost use Rattle.std.specs.Prelude.{◌≤◌, IfOk};
 ghost use Rattle.wording.specs.Rooms.{RoomFits};
 
@@ -8,14 +9,9 @@ use runs::Call;
 
 fn mark(words: &mut Words<'_>) -> Result<(u32, u32), Expected> {
     words.word("mark")?;
-    let time = words.long()?;
-    let position = words.long()?;
+    let time = words.any()?;
+    let position = words.any()?;
     Ok((time, position))
-}
-
-fn limit(words: &mut Words<'_>) -> Result<u16, Expected> {
-    words.word("limit")?;
-    words.short()
 }
 
 // Of so many frames is the row that a read brings; no read fills more than 144.
@@ -23,14 +19,10 @@ fn room(words: &mut Words<'_>) -> Result<u16, Expected>
     ensures { IfOk result (λ room. room ≤ 144) }
 {
     words.word("room")?;
-    Ok(words.number(0, 144)? as u16)
+    words.number(0, 144)
 }
 
-fn key(words: &mut Words<'_>) -> Result<u16, Expected> {
-    words.word("key")?;
-    words.short()
-}
-
+// No FromStr: a word that is missing is answered as a wrong one, and one match says both.
 fn mode(words: &mut Words<'_>) -> Result<Mode, Expected> {
     match words.next() {
         Some("ring") => Ok(Mode::Ring),
@@ -43,14 +35,14 @@ fn set_mode<R: Worded>(words: &mut Words<'_>) -> Result<Call<R>, Expected>
     ensures { IfOk result RoomFits }
 {
     let mode = mode(words)?;
-    let key = key(words)?;
+    let key = words.named("key")?;
     Ok(Call::SetMode { key, mode })
 }
 
 fn enter<R: Worded>(words: &mut Words<'_>) -> Result<Call<R>, Expected>
     ensures { IfOk result RoomFits }
 {
-    let time = words.long()?;
+    let time = words.any()?;
     let record = R::from_words(words)?;
     Ok(Call::Enter { time, record })
 }
@@ -58,18 +50,17 @@ fn enter<R: Worded>(words: &mut Words<'_>) -> Result<Call<R>, Expected>
 fn release<R: Worded>(words: &mut Words<'_>) -> Result<Call<R>, Expected>
     ensures { IfOk result RoomFits }
 {
-    let position = words.long()?;
-    let key = key(words)?;
+    let position = words.any()?;
+    let key = words.named("key")?;
     Ok(Call::Release { key, position })
 }
 
 fn listen<R: Worded>(words: &mut Words<'_>) -> Result<Call<R>, Expected>
     ensures { IfOk result RoomFits }
 {
-    let party = words.small()?;
+    let party = words.any()?;
     let mark = mark(words)?;
-    words.word("fill")?;
-    let fill = words.small()?;
+    let fill = words.named("fill")?;
     Ok(Call::Listen { party, mark, fill })
 }
 
@@ -77,7 +68,7 @@ fn since<R: Worded>(words: &mut Words<'_>) -> Result<Call<R>, Expected>
     ensures { IfOk result RoomFits }
 {
     let mark = mark(words)?;
-    let limit = limit(words)?;
+    let limit = words.named("limit")?;
     let room = room(words)?;
     Ok(Call::Since { mark, limit, room })
 }
@@ -85,9 +76,9 @@ fn since<R: Worded>(words: &mut Words<'_>) -> Result<Call<R>, Expected>
 fn span<R: Worded>(words: &mut Words<'_>) -> Result<Call<R>, Expected>
     ensures { IfOk result RoomFits }
 {
-    let first = words.long()?;
-    let last = words.long()?;
-    let limit = limit(words)?;
+    let first = words.any()?;
+    let last = words.any()?;
+    let limit = words.named("limit")?;
     let room = room(words)?;
     Ok(Call::Span {
         first,
@@ -101,7 +92,8 @@ fn hand_back<R: Worded>(words: &mut Words<'_>) -> Result<Call<R>, Expected>
     ensures { IfOk result RoomFits }
 {
     words.word("back")?;
-    Ok(Call::HandBack { key: key(words)? })
+    let key = words.named("key")?;
+    Ok(Call::HandBack { key })
 }
 
 fn call<R: Worded>(words: &mut Words<'_>) -> Result<Call<R>, Expected>
@@ -109,8 +101,12 @@ fn call<R: Worded>(words: &mut Words<'_>) -> Result<Call<R>, Expected>
 {
     match words.next() {
         Some("enter") => enter(words),
-        Some("start") => Ok(Call::Start { key: key(words)? }),
-        Some("stop") => Ok(Call::Stop { key: key(words)? }),
+        Some("start") => Ok(Call::Start {
+            key: words.named("key")?,
+        }),
+        Some("stop") => Ok(Call::Stop {
+            key: words.named("key")?,
+        }),
         Some("mode") => set_mode(words),
         Some("release") => release(words),
         Some("listen") => listen(words),

@@ -25,18 +25,21 @@ impl fmt::Display for Expected {
     ghost output = { λ e. Some (expected_words e) };
 
     fn fmt<W: fmt::Write>(&self, f: &mut fmt::Formatter<W>) -> fmt::Result {
-        match *self {
-            Expected::Kind => f.write_str("messages or measured"),
-            Expected::Tray => f.write_str("open, packed or annex"),
-            Expected::Part => f.write_str("open or packed"),
-            Expected::Call => f.write_str(
-                "enter, start, stop, mode, release, listen, since, oldest, youngest, span, take or hand",
-            ),
-            Expected::Mode => f.write_str("ring or keep"),
-            Expected::Word(word) => f.write_str(word),
-            Expected::Number { least, most } => write!(f, "a number from {least} to {most}"),
-            Expected::Temperature => f.write_str("a number from -600 to 600"),
-            Expected::End => f.write_str("the end of the line"),
-        }
+        let words = match *self {
+            Expected::Kind => "messages or measured",
+            Expected::Tray => "open, packed or annex",
+            Expected::Part => "open or packed",
+            Expected::Call => {
+                "enter, start, stop, mode, release, listen, since, oldest, youngest, span, take or hand"
+            }
+            Expected::Mode => "ring or keep",
+            Expected::Word(word) => word,
+            Expected::Number { least, most } => {
+                return write!(f, "a number from {least} to {most}");
+            }
+            Expected::Temperature => "a number from -600 to 600",
+            Expected::End => "the end of the line",
+        };
+        f.write_str(words)
     }
 }

@@ -1,59 +1,24 @@
 // What differs by the kind of record: its words, read and written.
 use crate::{Expected, Words};
-use records::{Channel, Degree, Measured, Message, Record, Temperature};
-use std::alloc::{AllocError, Global};
+use records::{Channel, Measured, Message, Record, Temperature};
+use std::fmt;
 
-pub trait Worded: Record {
-    // Some record, for the rows of reads before they are filled.
-    fn blank() -> Self;
-
+// The default is for the rows of reads before they are filled.
+pub trait Worded: Record + Default {
     // The record that the next words tell.
     fn from_words(words: &mut Words<'_>) -> Result<Self, Expected>;
 
-    // The same words again.
-    fn to_words(&self, heap: Global) -> Result<String, AllocError>;
-}
-
-fn degree(words: &mut Words<'_>) -> Result<Degree, Expected> {
-    match Degree::new(words.number(1, 6)?) {
-        Some(degree) => Ok(degree),
-        None => unreachable!(),
-    }
-}
-
-fn channel(words: &mut Words<'_>) -> Result<Channel, Expected> {
-    match Channel::new(words.number(1, 64)?) {
-        Some(channel) => Ok(channel),
-        None => unreachable!(),
-    }
-}
-
-fn temperature(words: &mut Words<'_>) -> Result<Temperature, Expected> {
-    match Temperature::new(words.tenths()?) {
-        Some(temperature) => Ok(temperature),
-        None => unreachable!(),
-    }
+    // Writes the same words again.
+    fn write_words<W: fmt::Write>(&self, f: &mut fmt::Formatter<W>) -> fmt::Result;
 }
 
 impl Worded for Message {
-    fn blank() -> Message {
-        Message {
-            maker: 0,
-            object: 0,
-            degree: Degree::First,
-            process: 0,
-        }
-    }
-
     fn from_words(words: &mut Words<'_>) -> Result<Message, Expected> {
-        words.word("maker")?;
-        let maker = words.short()?;
-        words.word("object")?;
-        let object = words.short()?;
+        let maker = words.named("maker")?;
+        let object = words.named("object")?;
         words.word("degree")?;
-        let degree = degree(words)?;
-        words.word("process")?;
-        let process = words.long()?;
+        let degree = words.number(1, 6)?;
+        let process = words.named("process")?;
         Ok(Message {
             maker,
             object,
@@ -62,37 +27,33 @@ impl Worded for Message {
         })
     }
 
-    fn to_words(&self, heap: Global) -> Result<String, AllocError> {
-        let maker = self.maker;
-        let object = self.object;
-        let degree = self.degree.number();
-        let process = self.process;
-        format!(in heap; "maker {maker} object {object} degree {degree} process {process}")
+    fn write_words<W: fmt::Write>(&self, f: &mut fmt::Formatter<W>) -> fmt::Result {
+        let Message {
+            maker,
+            object,
+            degree,
+            process,
+        } = self;
+        let degree = degree.number();
+        write!(
+            f,
+            "maker {maker} object {object} degree {degree} process {process}"
+        )
     }
 }
 
 impl Worded for Measured {
-    fn blank() -> Measured {
-        match (Channel::new(1), Temperature::new(0)) {
-            (Some(channel), Some(temperature)) => Measured {
-                channel,
-                bicycles: 0,
-                walkers: 0,
-                temperature,
-            },
-            _ => unreachable!(),
-        }
-    }
-
     fn from_words(words: &mut Words<'_>) -> Result<Measured, Expected> {
         words.word("channel")?;
-        let channel = channel(words)?;
-        words.word("bicycles")?;
-        let bicycles = words.short()?;
-        words.word("walkers")?;
-        let walkers = words.short()?;
+        let (least, most) = (1, 64);
+        let channel = Channel::new(words.number(least, most)?).ok_or(Expected::Number {
+            least,
+            most,
+        })?;
+        let bicycles = words.named("bicycles")?;
+        let walkers = words.named("walkers")?;
         words.word("temperature")?;
-        let temperature = temperature(words)?;
+        let temperature = Temperature::new(words.tenths()?).ok_or(Expected::Temperature)?;
         Ok(Measured {
             channel,
             bicycles,
@@ -101,12 +62,17 @@ impl Worded for Measured {
         })
     }
 
-    fn to_words(&self, heap: Global) -> Result<String, AllocError> {
-        let channel = self.channel.number();
-        let bicycles = self.bicycles;
-        let walkers = self.walkers;
-        let temperature = self.temperature.tenths();
-        format!(in heap;
+    fn write_words<W: fmt::Write>(&self, f: &mut fmt::Formatter<W>) -> fmt::Result {
+        let Measured {
+            channel,
+            bicycles,
+            walkers,
+            temperature,
+        } = self;
+        let channel = channel.number();
+        let temperature = temperature.tenths();
+        write!(
+            f,
             "channel {channel} bicycles {bicycles} walkers {walkers} temperature {temperature}"
         )
     }

@@ -11,7 +11,7 @@ mod numbers;
 mod opening;
 mod words;
 
-pub use answers::{answer_line, following, key_line, refusal, unreadable_line};
+pub use answers::{AnswerLine, KeyLine, UnreadableLine};
 pub use calls::read_call;
 pub use expected::Expected;
 pub use kinds::Worded;

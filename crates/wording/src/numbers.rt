@@ -4,17 +4,14 @@ ghost use Rattle.std.specs.Prelude.{◌≡◌, pos, negsuc, ◌≤ℤ◌, IfSome
 ghost use Rattle.wording.specs.Numbers.{Plain, Tenths};
 
 // The number that a word writes.
+#[tactic(auto, using(crate::proofs::Plain::signed_not_plain, crate::proofs::Plain::padded_not_plain, crate::proofs::Plain::plain_read))]
 pub(crate) fn plain(word: &str) -> Option<u32>
     ensures { Plain word.now result }
 {
-    let bytes = word.as_bytes();
-    if bytes.len() > 0 && bytes[0] == b'+' {
-        return None;
+    match word.as_bytes() {
+        [b'+', ..] | [b'0', _, ..] => None,
+        _ => word.parse().ok(),
     }
-    if bytes.len() > 1 && bytes[0] == b'0' {
-        return None;
-    }
-    word.parse::<u32>().ok()
 }
 
 // The number from -600 to 600 that a word writes; those below zero, and no other, have a `-` in front.
@@ -23,12 +20,12 @@ pub(crate) fn tenths(word: &str) -> Option<i32>
     ensures range { IfSome result (λ t. (negsuc 599 ≤ℤ t) × (t ≤ℤ pos 600)) }
 {
     match word.strip_prefix('-') {
-        Some(digits) => match plain(digits) {
-            Some(number) if number > 0 && number <= 600 => Some(-(number as i32)),
+        Some(digits) => match plain(digits)? {
+            number @ 1..=600 => Some(-(number as i32)),
             _ => None,
         },
-        None => match plain(word) {
-            Some(number) if number <= 600 => Some(number as i32),
+        None => match plain(word)? {
+            number @ 0..=600 => Some(number as i32),
             _ => None,
         },
     }

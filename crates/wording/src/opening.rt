@@ -10,7 +10,8 @@ pub enum Kind {
     Measured,
 }
 
-// A tray by what it lies in.
+// A tray by what it lies in. That its size is one of a tray is said by `Fits` in the contracts below: an
+// enum has no invariant, and a struct around it would be taken apart at each match.
 #[derive(Clone, Copy)]
 pub enum Part {
     // so many slots
@@ -28,6 +29,7 @@ pub struct Opening {
     pub second: Option<Part>,
 }
 
+// No FromStr: a word that is missing is answered as a wrong one, and one match says both.
 fn which_kind(words: &mut Words<'_>) -> Result<Kind, Expected> {
     match words.next() {
         Some("messages") => Ok(Kind::Messages),
@@ -36,40 +38,39 @@ fn which_kind(words: &mut Words<'_>) -> Result<Kind, Expected> {
     }
 }
 
-fn open(words: &mut Words<'_>) -> Result<Part, Expected>
+// The part that this first word begins; the caller says what was expected if it begins none.
+fn part_from(
+    first: Option<&str>,
+    words: &mut Words<'_>,
+    expected: Expected,
+) -> Result<Part, Expected>
     ensures { IfOk result Fits }
 {
-    Ok(Part::Open(words.number(0, 1_000_000)?))
-}
-
-fn packed(words: &mut Words<'_>) -> Result<Part, Expected>
-    ensures { IfOk result Fits }
-{
-    Ok(Part::Packed(words.number(0, 24_000_000)?))
-}
-
-fn either_part(words: &mut Words<'_>) -> Result<Part, Expected>
-    ensures { IfOk result Fits }
-{
-    match words.next() {
-        Some("open") => open(words),
-        Some("packed") => packed(words),
-        _ => Err(Expected::Part),
+    match first {
+        Some("open") => Ok(Part::Open(words.number(0, 1_000_000)?)),
+        Some("packed") => Ok(Part::Packed(words.number(0, 24_000_000)?)),
+        _ => Err(expected),
     }
+}
+
+// A part of an annex.
+fn annexed(words: &mut Words<'_>) -> Result<Part, Expected>
+    ensures { IfOk result Fits }
+{
+    let first = words.next();
+    part_from(first, words, Expected::Part)
 }
 
 fn tray(words: &mut Words<'_>) -> Result<(Part, Option<Part>), Expected>
     ensures { IfOk result (λ parts. Fits parts.0 × FitsIfAny parts.1) }
 {
     match words.next() {
-        Some("open") => Ok((open(words)?, None)),
-        Some("packed") => Ok((packed(words)?, None)),
         Some("annex") => {
-            let first = either_part(words)?;
-            let second = either_part(words)?;
+            let first = annexed(words)?;
+            let second = annexed(words)?;
             Ok((first, Some(second)))
         }
-        _ => Err(Expected::Tray),
+        first => Ok((part_from(first, words, Expected::Tray)?, None)),
     }
 }
 
@@ -80,7 +81,7 @@ pub fn read_opening(line: &str) -> Result<Opening, Expected>
     let mut words = Words::of(line);
     let kind = which_kind(&mut words)?;
     words.word("book")?;
-    let number = words.short()?;
+    let number = words.any()?;
     let (first, second) = tray(&mut words)?;
     words.end()?;
     Ok(Opening {

@@ -1,8 +1,9 @@
 // The words of a line, from left to right.
-ghost use Rattle.std.specs.Prelude.{◌≤◌, pos, negsuc, ◌≤ℤ◌, IfOk};
+ghost use Rattle.std.specs.Prelude.{◌≤◌, ℕ, Ok, pos, negsuc, ◌≤ℤ◌, IfOk};
 
 use crate::Expected;
 use crate::numbers::{plain, tenths};
+use num_traits::Bounded;
 use std::str::Split;
 
 #[derive(Drop)]
@@ -10,16 +11,19 @@ pub struct Words<'a> {
     rest: Split<'a, char>,
 }
 
+impl<'a> Iterator for Words<'a> {
+    type Item = &'a str;
+
+    fn next(&mut self) -> Option<&'a str> {
+        self.rest.next()
+    }
+}
+
 impl<'a> Words<'a> {
     pub fn of(line: &'a str) -> Words<'a> {
         Words {
             rest: line.split(' '),
         }
-    }
-
-    // The next word; none at the end of the line.
-    pub fn next(&mut self) -> Option<&'a str> {
-        self.rest.next()
     }
 
     // This word and no other.
@@ -30,45 +34,44 @@ impl<'a> Words<'a> {
         }
     }
 
-    // A number of these bounds.
-    pub fn number(&mut self, least: u32, most: u32) -> Result<u32, Expected>
-        ensures { IfOk result (λ n. (least ≤ n) × (n ≤ most)) }
+    // A number of these bounds, as what is made of it.
+    pub fn number<N: TryFrom<u32>>(&mut self, least: u32, most: u32) -> Result<N, Expected>
+    where
+        N::Error: Drop,
+        ensures { IfOk result (λ made. (n : ℕ) × (least ≤ n) × (n ≤ most) × N.try_from_gives n (Ok made)) }
     {
-        if let Some(word) = self.next()
-            && let Some(number) = plain(word)
-            && least <= number
-            && number <= most
-        {
-            return Ok(number);
-        }
-        Err(Expected::Number { least, most })
+        self.next()
+            .and_then(plain)
+            .filter(|number| (least..=most).contains(number))
+            .and_then(|number| N::try_from(number).ok())
+            .ok_or(Expected::Number { least, most })
     }
 
-    // A number of 32 bits.
-    pub fn long(&mut self) -> Result<u32, Expected> {
-        self.number(0, 4_294_967_295)
+    // Any number of the type that is wanted.
+    pub(crate) fn any<N: Bounded + Into<u32> + TryFrom<u32>>(&mut self) -> Result<N, Expected>
+    where
+        <N as TryFrom<u32>>::Error: Drop,
+    {
+        self.number(0, N::max_value().into())
     }
 
-    // A number of 16 bits.
-    pub fn short(&mut self) -> Result<u16, Expected> {
-        Ok(self.number(0, 65_535)? as u16)
-    }
-
-    // A number of 8 bits.
-    pub fn small(&mut self) -> Result<u8, Expected> {
-        Ok(self.number(0, 255)? as u8)
+    // This word, and then any number.
+    pub(crate) fn named<N: Bounded + Into<u32> + TryFrom<u32>>(
+        &mut self,
+        word: &'static str,
+    ) -> Result<N, Expected>
+    where
+        <N as TryFrom<u32>>::Error: Drop,
+    {
+        self.word(word)?;
+        self.any()
     }
 
     // Tenths of a degree, -600 to 600; below zero with a `-` before them.
     pub fn tenths(&mut self) -> Result<i32, Expected>
         ensures { IfOk result (λ t. (negsuc 599 ≤ℤ t) × (t ≤ℤ pos 600)) }
     {
-        if let Some(word) = self.next()
-            && let Some(number) = tenths(word)
-        {
-            return Ok(number);
-        }
-        Err(Expected::Temperature)
+        self.next().and_then(tenths).ok_or(Expected::Temperature)
     }
 
     // No further word.
