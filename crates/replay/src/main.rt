@@ -7,7 +7,7 @@ use runs::{Call, Outcome, Reply, run};
 use std::alloc::{AllocError, Global};
 use std::io;
 use std::io::{BufRead, BufReader, Split, Stdin};
-use trays::{Annex, OpenTray, PackedTray, Slot};
+use trays::{Annex, OpenTray, PackedTray, Slot, Tray};
 use wording::{
     AnswerLine, KeyLine, Kind, Opening, Part, UnreadableLine, Worded, read_call, read_opening,
 };
@@ -47,7 +47,7 @@ fn print_answers<R: Worded>(rt: &HostRuntime, replies: &[Reply<R>]) -> io::Resul
 }
 
 // The memory that a part of a tray lies in: of a part that is open the bytes are none, and of a packed
-// one the slots. So every part has one type of tray, these two end to end.
+// one the slots.
 #[derive(Drop)]
 struct Memory {
     slots: Vec<Slot>,
@@ -67,31 +67,60 @@ impl Memory {
         })
     }
 
-    fn tray(&mut self) -> Annex<OpenTray<'_, Slot>, PackedTray<'_, Slot>> {
-        let slots = OpenTray::new(self.slots.as_mut_slice());
-        let bytes = PackedTray::new(self.bytes.as_mut_slice());
-        Annex::new(slots, bytes)
+    fn open(&mut self) -> OpenTray<'_, Slot> {
+        OpenTray::new(self.slots.as_mut_slice())
+    }
+
+    fn packed(&mut self) -> PackedTray<'_, Slot> {
+        PackedTray::new(self.bytes.as_mut_slice())
     }
 }
 
-// A session of one kind, over the tray that its opening names. Its calls are the lines after the first.
-fn hold<R: Worded>(rt: &HostRuntime, opening: Opening, lines: Lines) -> io::Result<()> {
+// A session over this tray. Its calls are the lines after the first.
+fn session<R: Worded, T: Tray<Slot = Slot> + Drop>(
+    rt: &HostRuntime,
+    number: u16,
+    tray: T,
+    lines: Lines,
+) -> io::Result<()> {
     let heap = rt.alloc();
     let Script { calls, stop } = read_script::<R>(heap, lines)?;
-    let mut first = Memory::of(heap, Some(opening.first))?;
-    let mut second = Memory::of(heap, opening.second)?;
-    let tray = Annex::new(first.tray(), second.tray());
     let blank = Frame::<R>::default();
-    let Outcome { replies, session } = run(heap, opening.number, tray, blank, calls.as_slice())?;
+    let Outcome { replies, session } = run(heap, number, tray, blank, calls.as_slice())?;
     print_answers(rt, replies.as_slice())?;
     if let Some(stop) = stop {
         println!(rt; "{stop}")?;
     }
     if session.key.is_some() {
-        let number = opening.number;
         println!(rt; "{}", KeyLine { book: number })?;
     }
     Ok(())
+}
+
+// A session of one kind, over the tray that its opening names. Each tray is a type of its own, since one for all,
+// of parts that may be empty, would ask every part for its slots at each look.
+fn hold<R: Worded>(rt: &HostRuntime, opening: Opening, lines: Lines) -> io::Result<()> {
+    use Part::{Open, Packed};
+    let heap = rt.alloc();
+    let number = opening.number;
+    let mut a = Memory::of(heap, Some(opening.first))?;
+    let mut b = Memory::of(heap, opening.second)?;
+    match (opening.first, opening.second) {
+        (Open(_), None) => session::<R, _>(rt, number, a.open(), lines),
+        (Packed(_), None) => session::<R, _>(rt, number, a.packed(), lines),
+        (Open(_), Some(Open(_))) => {
+            session::<R, _>(rt, number, Annex::new(a.open(), b.open()), lines)
+        }
+        (Open(_), Some(Packed(_))) => {
+            session::<R, _>(rt, number, Annex::new(a.open(), b.packed()), lines)
+        }
+        (Packed(_), Some(Open(_))) => {
+            session::<R, _>(rt, number, Annex::new(a.packed(), b.open()), lines)
+        }
+        (Packed(_), Some(Packed(_))) => {
+            session::<R, _>(rt, number, Annex::new(a.packed(), b.packed()), lines)
+        }
+    }
 }
 
 // No line at all is read as an empty one.

@@ -6,6 +6,7 @@
 
 mod asked;
 mod keys;
+mod lent;
 mod reading;
 mod replies;
 mod running;
@@ -13,6 +14,7 @@ mod session;
 
 pub use asked::{Call, Keyed, Read};
 pub use keys::show;
+pub use lent::carry_out;
 pub use reading::ask;
 pub use replies::{Accepted, Reply};
 pub use running::{Outcome, run};

@@ -7,11 +7,9 @@ ghost use Rattle.runs.specs.Answers.{answer_of};
 ghost use Rattle.runs.specs.Held.{held_one_way};
 ghost use Rattle.runs.specs.Steps.{HeldKey, keyed_checks, keyed_state, world_of, step_answer, step_state, step_row};
 
-use crate::asked::{Keyed, Read};
-use crate::keys::{offer, show, with_other_key};
-use crate::reading::read_own;
-use crate::{Accepted, Call, Reply};
-use book::{Book, BookFault, KeyPlace, ServiceKey};
+use crate::lent::carry_out;
+use crate::{Call, Reply};
+use book::{Book, KeyPlace, ServiceKey};
 use records::{Frame, Record};
 use std::alloc::{AllocError, Global};
 use trays::{Slot, Tray};
@@ -72,53 +70,7 @@ impl<R: Record, T: Tray<Slot = Slot>> Session<R, T> {
         }
     }
 
-    // Shows a key of this number: the held one if it is that, else another book's.
-    fn show(&mut self, number: u16, call: Keyed) -> Result<(), BookFault>
-        ensures answer { let b = self.old.book in told result ≡ decided (keyed_checks call b.state b.number number) tt }
-        ensures state { let b = self.old.book in self.new.book.state ≡ left (keyed_checks call b.state b.number number) (keyed_state call b.state) b.state }
-        ensures tray { self.new.book.tray ≡ self.old.book.tray }
-        ensures number { self.new.book.number ≡ self.old.book.number }
-    {
-        match &self.key {
-            Some(key) if key.book() == number => show(&mut self.book, key, call),
-            _ => with_other_key(&mut self.book, number, |book, key| {
-                (show(book, &key, call), Some(key))
-            }),
-        }
-    }
-
-    // Hands back a key of this number: the held one if it is that, else another book's.
-    fn hand_back(&mut self, number: u16) -> Result<(), BookFault>
-        ensures answer { let b = self.old.book in told result ≡ decided (key_checks b.state b.number number) tt }
-        ensures state { let b = self.old.book in self.new.book.state ≡ left (key_checks b.state b.number number) (with_key KeyPlace.In b.state) b.state }
-        ensures tray { self.new.book.tray ≡ self.old.book.tray }
-        ensures number { self.new.book.number ≡ self.old.book.number }
-    {
-        match &self.key {
-            Some(key) if key.book() == number => {
-                self.give_back();
-                Ok(())
-            }
-            _ => with_other_key(&mut self.book, number, offer),
-        }
-    }
-
-    // Takes the book's own key, which is then held.
-    fn take(&mut self) -> Result<u16, BookFault>
-        ensures answer { let b = self.old.book in told result ≡ decided (take_checks b.state) b.number }
-        ensures state { let b = self.old.book in self.new.book.state ≡ left (take_checks b.state) (with_key KeyPlace.Out b.state) b.state }
-        ensures tray { self.new.book.tray ≡ self.old.book.tray }
-        ensures number { self.new.book.number ≡ self.old.book.number }
-    {
-        let key = self.book.take()?;
-        let number = key.book();
-        match self.key.replace(key) {
-            None => Ok(number),
-            Some(_) => unreachable!(),
-        }
-    }
-
-    // One call, on the book as it stands. Calls are data, told by their cases in the law.
+    // One call, on the book as it stands.
     pub fn carry_out(
         &mut self,
         heap: Global,
@@ -131,47 +83,14 @@ impl<R: Record, T: Tray<Slot = Slot>> Session<R, T> {
         ensures memory { T.Tray.memory self.new.book.tray ≡ T.Tray.memory self.old.book.tray }
         ensures number { self.new.book.number ≡ self.old.book.number }
     {
-        Ok(match call {
-            Call::Enter { time, record } => self
-                .book
-                .enter(time, record)
-                .map(|entered| Accepted::Entered(entered)),
-            Call::Start { key } => self.show(key, Keyed::Start).map(|()| Accepted::Done),
-            Call::Stop { key } => self.show(key, Keyed::Stop).map(|()| Accepted::Done),
-            Call::SetMode { key, mode } => self
-                .show(key, Keyed::SetMode(mode))
-                .map(|()| Accepted::Done),
-            Call::Release { key, position } => self
-                .show(key, Keyed::Release(position))
-                .map(|()| Accepted::Done),
-            Call::Listen { party, mark, fill } => self
-                .book
-                .listen(party, mark, fill)
-                .map(|()| Accepted::Done),
-            Call::Since { mark, limit, room } => read_own(
-                heap,
-                &self.book,
-                blank,
-                Read::Since { mark, limit },
-                room,
-            )?,
-            Call::Oldest { room } => read_own(heap, &self.book, blank, Read::Oldest, room)?,
-            Call::Youngest { room } => read_own(heap, &self.book, blank, Read::Youngest, room)?,
-            Call::Span {
-                first,
-                last,
-                limit,
-                room,
-            } => read_own(
-                heap,
-                &self.book,
-                blank,
-                Read::Span { first, last, limit },
-                room,
-            )?,
-            Call::Take => self.take().map(|number| Accepted::Key(number)),
-            Call::HandBack { key } => self.hand_back(key).map(|()| Accepted::Done),
-        })
+        let (reply, key) = carry_out(heap, &mut self.book, self.key.take(), blank, call);
+        if let Some(key) = key {
+            match self.key.replace(key) {
+                None => {}
+                Some(_) => unreachable!(),
+            }
+        }
+        reply
     }
 }
 

@@ -21,6 +21,7 @@ fn serve_input<T: Tray<Slot = Slot>>(
     let mut output = rt.stdout();
     let mut waiting = Vec::new(rt.alloc());
     let mut replies = Vec::new(rt.alloc());
+    let mut chunk = [0; 4096];
     // counted, since a loop is proved to end: so many turns never come
     for _ in 0..u64::MAX {
         match cut(waiting.as_slice()) {
@@ -32,10 +33,13 @@ fn serve_input<T: Tray<Slot = Slot>>(
                 waiting.clear();
             }
             Piece::Incomplete(missing) => {
-                let mut missing = input.by_ref().take(missing as u64);
-                if missing.read_to_end(&mut waiting)? == 0 {
+                // one read: an end of the input is met once, and no memory is asked for before a byte came
+                let part = &mut chunk[..missing.min(4096)];
+                let count = input.read(part)?;
+                if count == 0 {
                     break;
                 }
+                waiting.extend_from_slice(&part[..count])?;
             }
             Piece::TooLong => break,
         }

@@ -19,7 +19,7 @@ fn room(words: &mut Words<'_>) -> Result<u16, Expected>
     ensures { IfOk result (λ room. room ≤ 144) }
 {
     words.word("room")?;
-    words.number(0, 144)
+    words.number_as(0, 144)
 }
 
 // No FromStr: a word that is missing is answered as a wrong one, and one match says both.

@@ -17,7 +17,7 @@ impl Worded for Message {
         let maker = words.named("maker")?;
         let object = words.named("object")?;
         words.word("degree")?;
-        let degree = words.number(1, 6)?;
+        let degree = words.number_as(1, 6)?;
         let process = words.named("process")?;
         Ok(Message {
             maker,

@@ -34,8 +34,15 @@ impl<'a> Words<'a> {
         }
     }
 
+    // A number of these bounds.
+    pub fn number(&mut self, least: u32, most: u32) -> Result<u32, Expected>
+        ensures { IfOk result (λ n. (least ≤ n) × (n ≤ most)) }
+    {
+        self.number_as(least, most)
+    }
+
     // A number of these bounds, as what is made of it.
-    pub fn number<N: TryFrom<u32>>(&mut self, least: u32, most: u32) -> Result<N, Expected>
+    pub fn number_as<N: TryFrom<u32>>(&mut self, least: u32, most: u32) -> Result<N, Expected>
     where
         N::Error: Drop,
         ensures { IfOk result (λ made. (n : ℕ) × (least ≤ n) × (n ≤ most) × N.try_from_gives n (Ok made)) }
@@ -52,7 +59,7 @@ impl<'a> Words<'a> {
     where
         <N as TryFrom<u32>>::Error: Drop,
     {
-        self.number(0, N::max_value().into())
+        self.number_as(0, N::max_value().into())
     }
 
     // This word, and then any number.
